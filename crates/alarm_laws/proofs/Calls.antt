@@ -10,7 +10,7 @@ use Rattle.flow_graph_laws.specs.ArgKind.{ArgKind}
 use Rattle.flow_graph_laws.specs.SysResult.{SysResult}
 use Rattle.flow_graph_laws.specs.Table.{recorded_of}
 use Rattle.c_tree.specs.declared.value.Value.{Value}
-use Rattle.c_tree.specs.declared.value.Value.TheVariants.{Indeterminate, Int, Uint, Char, Uchar, Null, Func, At}
+use Rattle.c_tree.specs.declared.value.Value.TheVariants.{Uint}
 use Rattle.c_tree.specs.Tree.{CType, pointer, function, CTypes, Exprs, Function, Program}
 use Rattle.c_tree.specs.Functions.{defined, called_type}
 use Rattle.c_tree.specs.Constants.{pattern_of}
@@ -40,9 +40,8 @@ use Rattle.alarm_laws.proofs.Guards.{IsTied}
 
 -- a pattern without numbers is fitted by any arguments
 none_fits : (kinds : List ArgKind) (xs : List Arg) → FitArguments (map (λ kind. None) kinds) xs
-none_fits [] xs = tt
-none_fits (kind ∷ kinds) [] = tt
 none_fits (kind ∷ kinds) (x ∷ xs) = none_fits kinds xs
+none_fits kinds xs = tt
 
 module _ (p : Program) (n : ℕ) (right : IsProgram p n) (marks : Marks) (m : F.Marks) (keep : Event → List Event) (ties : IsTied p marks m keep) where
   abbrev env : Shapes
@@ -86,11 +85,9 @@ module _ (p : Program) (n : ℕ) (right : IsProgram p n) (marks : Marks) (m : F.
   one_event x xs r u = ap (λ z. (z ++ []) ++ u) (ties.system x xs r)
 
   exit_says : (q : List (Option ℤ)) (xs : List Arg) → FitArguments q xs → Says env m keep {A = Value} Straight (Exit q) (exit_with xs)
-  exit_says q [] fits = λ u. F.nothing
-  exit_says q (args.Bytes bytes ∷ xs) fits = λ u. F.nothing
-  exit_says q (args.Int z ∷ a ∷ xs) fits = λ u. F.nothing
   exit_says q (args.Int z ∷ []) fits =
       λ u. subst (λ t. Front env m (Exit q) t u) (sym (one_event exit_call (args.Int z ∷ []) (pos 0) u)) (F.exits (refl, fits))
+  exit_says q xs fits = λ u. F.nothing
 
   stored_says : (x : ℕ) (q : List (Option ℤ)) (xs : List Arg) (z : ℤ) (stored : Answer Objects) (v : Value) (st : State) → FitArguments q xs → Says env m keep {A = Value} Straight (SysShape x q) (after (Sys x xs z ∷ []) (remembered stored v st))
   stored_says x q xs z (gives o) v st fits =
@@ -126,16 +123,8 @@ module _ (p : Program) (n : ℕ) (right : IsProgram p n) (marks : Marks) (m : F.
 
   -- null calls that the program makes itself are not read
   null_says : (event : ℕ → Event) → ((site : ℕ) → keep (event site) ≡ []) → (vs : List Value) (st : State) → Says env m keep {A = Value} Straight Skip (null_call event vs st)
-  null_says event e [] st = λ u. F.nothing
   null_says event e (Uint site ∷ []) st = λ u. subst (λ z. Whole env m Skip goes_on ((z ++ []) ++ u) u) (sym (e site)) F.skip
-  null_says event e (Uint site ∷ v ∷ vs) st = λ u. F.nothing
-  null_says event e (Indeterminate ∷ vs) st = λ u. F.nothing
-  null_says event e (Int z ∷ vs) st = λ u. F.nothing
-  null_says event e (Char z ∷ vs) st = λ u. F.nothing
-  null_says event e (Uchar k ∷ vs) st = λ u. F.nothing
-  null_says event e (Null ∷ vs) st = λ u. F.nothing
-  null_says event e (Func f ∷ vs) st = λ u. F.nothing
-  null_says event e (At q ∷ vs) st = λ u. F.nothing
+  null_says event e vs st = λ u. F.nothing
 
   number_is : (f k : ℕ) → defined p ≤ f → nat_eq (f - defined p) k ≡ true → f ≡ defined p + k
   number_is f k le e = let d = same_number (f - defined p) k e in omega (arith, le, d)

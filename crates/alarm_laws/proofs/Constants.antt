@@ -1,5 +1,5 @@
 -- A constant argument has in each run the value that it has in the program, and so an event fits its pattern (C99 6.6).
-use Rattle.std.proofs.Common.{◌≡◌, ℕ, zero, suc, ◌<◌, Bool, true, false, not, ◌&&◌, List, [], ◌∷◌, ℤ, pos, negsuc, ◌-ℤ◌, Option, Some, None, slice_get, slice_index_or, refl, ap, sym, ◌∙◌, subst, arith}
+use Rattle.std.proofs.Common.{◌≡◌, ℕ, zero, suc, ◌<◌, Bool, true, false, not, ◌&&◌, List, [], ◌∷◌, ℤ, pos, ◌-ℤ◌, Option, Some, None, slice_get, slice_index_or, refl, ap, sym, ◌∙◌, subst, arith}
 use Rattle.std.specs.Int.{w32, int_wrap}
 use Rattle.std.specs.Ordering.{int_eq}
 use Rattle.std.specs.Prelude.{drop, neg_ℤ}
@@ -19,7 +19,7 @@ use Rattle.c_tree.specs.declared.value.UnOp.TheVariants.{Minus, Complement, Not}
 use Rattle.c_tree.specs.declared.value.Pointer.{Pointer}
 use Rattle.c_tree.specs.declared.value.Value.{Value}
 use Rattle.c_tree.specs.declared.value.Value.TheVariants.{Indeterminate, Int, Uint, Char, Uchar, Null, Func, At}
-use Rattle.c_tree.specs.Tree.{CType, void, integer, pointer, array, struct, function, CTypes, no_types, more_types, Program, type_of}
+use Rattle.c_tree.specs.Tree.{CType, integer, function, CTypes, no_types, more_types, Program, type_of}
 use Rattle.c_tree.specs.Tree.{Expr, constant, unary_operation, conversion, arithmetic}
 use Rattle.c_tree.specs.Tree.{Exprs, no_exprs, more_exprs}
 use Rattle.c_tree.specs.Functions.{int, unsigned_int, char_pointer, sys_types}
@@ -62,49 +62,34 @@ given_from None f y e = absurd (no_some y e)
 given_from (Some x) f y e = (x, refl, given_is (f x) y e)
 
 given_from_two : (o q : Option Value) (f : Value → Value → Answer Value) (y : Value) → given_of_two o q f ≡ Some y → (x z : Value) × (o ≡ Some x) × (q ≡ Some z) × (f x z ≡ gives y)
-given_from_two None q f y e = absurd (no_some y e)
-given_from_two (Some x) None f y e = absurd (no_some y e)
 given_from_two (Some x) (Some z) f y e = (x, z, refl, refl, given_is (f x z) y e)
+given_from_two o q f y e = absurd (no_some y e)
 
 -- `!` of a number is what a test says
 truth_is : (b : Bool) → truth b ≡ gives (truth_value b)
 truth_is true = refl
 truth_is false = refl
 
-unequal : (x y : ℤ) → (x ≡ y → ⊥) → int_eq x y ≡ false
-unequal x y h = by (int_eq x y) refl
-  where
-    by : (b : Bool) → int_eq x y ≡ b → int_eq x y ≡ false
-    by true e = absurd (h ((Decides-int_eq x y).0 e))
-    by false e = e
-
-abbrev IsNought : ℤ → Type 0
-IsNought (pos zero) = Unit {0}
-IsNought (pos (suc n)) = ⊥
-IsNought (negsuc n) = ⊥
-
 zero_is : (z : ℤ) → not (is_not_zero z) ≡ int_eq z (pos 0)
 zero_is (pos zero) = refl
-zero_is (pos (suc n)) = sym (unequal (pos (suc n)) (pos 0) (λ e. subst IsNought (sym e) tt))
-zero_is (negsuc n) = sym (unequal (negsuc n) (pos 0) (λ e. subst IsNought (sym e) tt))
+zero_is z = by (int_eq z (pos 0)) refl
+  where
+    by : (b : Bool) → int_eq z (pos 0) ≡ b → false ≡ int_eq z (pos 0)
+    by true e = let same = (Decides-int_eq z (pos 0)).0 e in absurd (grind (arith, ints, same))
+    by false e = sym e
 
 not_is : (z : ℤ) → gives (truth_value (not (is_not_zero z))) ≡ truth (int_eq z (pos 0))
 not_is z = ap (λ b. gives (truth_value b)) (zero_is z) ∙ sym (truth_is (int_eq z (pos 0)))
 
-not_given : {y : Value} (kind : ℕ) → undefined kind ≡ gives y → ⊥
-not_given {y = y} kind e = subst (λ x. IfGives {A = Value} (λ v. ⊥) x) e tt
-
 operated_is : (op : UnOp) (m : Objects) (x y : Value) → unary op x ≡ gives y → operated op m x ≡ gives y
-operated_is Minus m x y e = e
-operated_is Complement m x y e = e
-operated_is Not m Indeterminate y e = e
 operated_is Not m (Int z) y e = not_is z ∙ e
 operated_is Not m (Uint n) y e = not_is (pos n) ∙ e
 operated_is Not m (Char z) y e = not_is z ∙ e
 operated_is Not m (Uchar n) y e = not_is (pos n) ∙ e
-operated_is Not m Null y e = absurd (not_given 13 e)
-operated_is Not m (Func f) y e = absurd (not_given 13 e)
-operated_is Not m (At q) y e = absurd (not_given 13 e)
+operated_is Not m Null y e = absurd (cc)
+operated_is Not m (Func f) y e = absurd (cc)
+operated_is Not m (At q) y e = absurd (cc)
+operated_is op m x y e = e
 
 module _ (p : Program) (w : World) (marks : Marks) (fr : Frame) where
   -- one operand, and a step with its value
@@ -154,15 +139,10 @@ unary_gives Minus t u (Int z) h k = to_int t u i.Int (settle i.Int (neg_ℤ z)) 
 unary_gives Minus t u (Uint n) h k = to_int t u i.Uint (settle i.Uint (neg_ℤ (pos n))) h k.0 (refl, below_32 (neg_ℤ (pos n)))
 unary_gives Complement t u (Int z) h k = to_int t u i.Int (settle i.Int (neg_ℤ z -ℤ pos 1)) h k.0 (fitting_gives (fits_int (neg_ℤ z -ℤ pos 1)) (neg_ℤ z -ℤ pos 1) 1 refl)
 unary_gives Complement t u (Uint n) h k = to_int t u i.Uint (settle i.Uint (neg_ℤ (pos n) -ℤ pos 1)) h k.0 (refl, below_32 (neg_ℤ (pos n) -ℤ pos 1))
-unary_gives Minus t u (Char z) h k = tt
-unary_gives Minus t u (Uchar n) h k = tt
-unary_gives Complement t u (Char z) h k = tt
-unary_gives Complement t u (Uchar n) h k = tt
 unary_gives Not t u Null h k = tt
-unary_gives Minus t u Null h k = tt
-unary_gives Complement t u Null h k = tt
 unary_gives op t u (Func f) h k = absurd k
 unary_gives op t u (At q) h k = absurd k
+unary_gives op t u x h k = tt
 
 module _ (p : Program) (vars : List CType) where
   constant_typed : (e : Expr) (y : Value) → IsValue p vars e → constant_value e ≡ Some y → IsConstant (type_of e) y
@@ -191,45 +171,22 @@ fit_first (Some n) pattern a rest h k = (h, k)
 abbrev IsOf : Option Value → CType → Value → Type 0
 IsOf o t v = (y : Value) → o ≡ Some y → (v ≡ y) × IsConstant t y
 
-abbrev form : CType → ℕ
-form void = 0
-form (integer i.Char) = 1
-form (integer i.Uchar) = 2
-form (integer i.Int) = 3
-form (integer i.Uint) = 4
-form (pointer t) = 5
-form (array t n) = 6
-form (struct s) = 7
-form (function r ts) = 8
-
 if_map : {A : Type 0} (P Q : A → Type 0) (x : Answer A) → IfGives P x → ((a : A) → P a → Q a) → IfGives Q x
 if_map P Q (gives a) h k = k a h
 if_map P Q (undefined kind) h k = tt
 
 signed_at : {A : Type 0} (as_arg : A → Arg) (read : Value → Answer A) → ((z : ℤ) → IfGives (λ a. as_arg a ≡ args.Int z) (read (Int z))) → (y : Value) → IsConstant int y → IfGives (λ a. EntryFits (number_in (given (convert i.Int y))) (as_arg a)) (read y)
-signed_at as_arg read is Indeterminate h = absurd h
 signed_at {A = A} as_arg read is (Int z) h =
     if_map {A = A} (λ a. as_arg a ≡ args.Int z) (λ a. IsNumber (int_wrap w32 z) (as_arg a)) (read (Int z)) (is z) (λ a e. subst (λ b. IsNumber (int_wrap w32 z) b) (sym e) (sym (int_wrap_fits w32 z h.1)))
-signed_at as_arg read is (Uint n) h = let e : 3 ≡ 4 = ap form h.0 in absurd (omega (arith, e))
-signed_at as_arg read is (Char z) h = let e : 3 ≡ 1 = ap form h.0 in absurd (omega (arith, e))
-signed_at as_arg read is (Uchar n) h = let e : 3 ≡ 2 = ap form h.0 in absurd (omega (arith, e))
-signed_at as_arg read is Null h = let e : 3 ≡ 5 = ap form h.1 in absurd (omega (arith, e))
-signed_at as_arg read is (Func f) h = absurd h
-signed_at as_arg read is (At q) h = absurd h
+signed_at as_arg read is y h = absurd (grind (arith, h))
 
 low_bits_same : (n : ℕ) → n < 4294967296 → pos n ≡ pos (low_bits 32 (pos n))
 low_bits_same n h = grind (arith, ints, h)
 
 unsigned_at : {A : Type 0} (as_arg : A → Arg) (read : Value → Answer A) → ((n : ℕ) → IfGives (λ a. as_arg a ≡ args.Int (pos n)) (read (Uint n))) → (y : Value) → IsConstant unsigned_int y → IfGives (λ a. EntryFits (number_in (given (convert i.Uint y))) (as_arg a)) (read y)
-unsigned_at as_arg read is Indeterminate h = absurd h
-unsigned_at as_arg read is (Int z) h = let e : 4 ≡ 3 = ap form h.0 in absurd (omega (arith, e))
 unsigned_at {A = A} as_arg read is (Uint n) h =
     if_map {A = A} (λ a. as_arg a ≡ args.Int (pos n)) (λ a. IsNumber (pos (low_bits 32 (pos n))) (as_arg a)) (read (Uint n)) (is n) (λ a e. subst (λ b. IsNumber (pos (low_bits 32 (pos n))) b) (sym e) (low_bits_same n h.1))
-unsigned_at as_arg read is (Char z) h = let e : 4 ≡ 1 = ap form h.0 in absurd (omega (arith, e))
-unsigned_at as_arg read is (Uchar n) h = let e : 4 ≡ 2 = ap form h.0 in absurd (omega (arith, e))
-unsigned_at as_arg read is Null h = let e : 4 ≡ 5 = ap form h.1 in absurd (omega (arith, e))
-unsigned_at as_arg read is (Func f) h = absurd h
-unsigned_at as_arg read is (At q) h = absurd h
+unsigned_at as_arg read is y h = absurd (grind (arith, h))
 
 -- an entry that is no number, or that of a constant
 at_constant : {A : Type 0} (to : IntType) (as_arg : A → Arg) (read : Value → Answer A) (o : Option Value) (v : Value) → IsOf o (integer to) v → ((y : Value) → IsConstant (integer to) y → IfGives (λ a. EntryFits (number_in (given (convert to y))) (as_arg a)) (read y)) → IfGives (λ a. EntryFits (number_in (given_of o (convert to))) (as_arg a)) (read v)
@@ -254,14 +211,12 @@ entry_fits m Bytes t e v k h = if_any {A = Arg} (λ a. Unit {0}) (argument m v) 
 -- the values of arguments: those of the constant ones are told
 abbrev pub AreConstants : Exprs → List Value → Type 0
 AreConstants no_exprs [] = Unit {0}
-AreConstants no_exprs (v ∷ vs) = ⊥
-AreConstants (more_exprs e es) [] = ⊥
 AreConstants (more_exprs e es) (v ∷ vs) = ((y : Value) → constant_value e ≡ Some y → v ≡ y) × AreConstants es vs
+AreConstants a u = ⊥
 
 abbrev kinds_are : List ArgKind → CTypes → Bool
-kinds_are [] ts = true
-kinds_are (kind ∷ kinds) no_types = true
 kinds_are (kind ∷ kinds) (more_types t ts) = kind_is kind t && kinds_are kinds ts
+kinds_are a ts = true
 
 module _ (p : Program) (vars : List CType) (m : Objects) where
   is_of : (e : Expr) (t : CType) (v : Value) → type_of e ≡ t → IsValue p vars e → ((y : Value) → constant_value e ≡ Some y → v ≡ y) → IsOf (constant_value e) t v
@@ -270,12 +225,11 @@ module _ (p : Program) (vars : List CType) (m : Objects) where
   args_fit : (kinds : List ArgKind) (ts : CTypes) (es : Exprs) (vs : List Value) → kinds_are kinds ts ≡ true → AreArguments p vars ts es → AreConstants es vs → IfGives (λ rest. FitArguments (entries kinds es) rest) (arguments m vs)
   args_fit [] ts es vs r h k = if_any {A = List Arg} (λ rest. Unit {0}) (arguments m vs) (λ rest. tt)
   args_fit (kind ∷ kinds) ts no_exprs [] r h k = tt
-  args_fit (kind ∷ kinds) ts no_exprs (v ∷ vs) r h k = absurd k
   args_fit (kind ∷ kinds) no_types (more_exprs e es) vs r h k = absurd h
-  args_fit (kind ∷ kinds) (more_types t ts) (more_exprs e es) [] r h k = absurd k
   args_fit (kind ∷ kinds) (more_types t ts) (more_exprs e es) (v ∷ vs) r h k =
       if_then {A = Arg} {B = List Arg} (λ a. EntryFits (entry kind e) a) (λ rest. FitArguments (entry kind e ∷ entries kinds es) rest) (argument m v) _ (entry_fits m kind t e v (and_left (kind_is kind t) (kinds_are kinds ts) r) (is_of e t v h.0 h.1 k.0)) (λ a j.
       if_then {A = List Arg} {B = List Arg} (λ rest. FitArguments (entries kinds es) rest) (λ rest. FitArguments (entry kind e ∷ entries kinds es) rest) (arguments m vs) _ (args_fit kinds ts es vs (and_right (kind_is kind t) (kinds_are kinds ts) r) h.2 k.1) (λ rest l. fit_first (entry kind e) (entries kinds es) a rest j l))
+  args_fit (kind ∷ kinds) ts es vs r h k = absurd k
 
   -- the request fits a pattern
   abbrev RequestFits : List (Option ℤ) → Answer Request → Type 0
@@ -295,30 +249,29 @@ module _ (p : Program) (vars : List CType) (m : Objects) where
       if_then {A = List ℕ} {B = Request} (λ bytes. Unit {0}) (λ q. FitArguments (entry Signed fd ∷ None ∷ []) q.arguments) (bytes_of_buffer m b s) _ (if_any {A = List ℕ} (λ bytes. Unit {0}) (bytes_of_buffer m b s) (λ bytes. tt)) (λ bytes o.
       fit_first (entry Signed fd) (None ∷ []) (args.Int z) (args.Bytes bytes ∷ []) j tt)))
 
-  -- three arguments
-  read_three : (t u : CType) (es : Exprs) (vs : List Value) → AreArguments p vars (more_types int (more_types u (more_types unsigned_int no_types))) es → AreConstants es vs → RequestFits (entries (Signed ∷ Unsigned ∷ []) (recorded_arguments 0 es)) (request 0 m vs)
-  read_three t u no_exprs vs h k = absurd h
-  read_three t u (more_exprs fd no_exprs) vs h k = absurd h.2
-  read_three t u (more_exprs fd (more_exprs buf no_exprs)) vs h k = absurd h.2.2
-  read_three t u (more_exprs fd (more_exprs buf (more_exprs n (more_exprs x es)))) vs h k = absurd h.2.2.2
-  read_three t u (more_exprs fd (more_exprs buf (more_exprs n no_exprs))) [] h k = absurd k
-  read_three t u (more_exprs fd (more_exprs buf (more_exprs n no_exprs))) (a ∷ []) h k = absurd k.1
-  read_three t u (more_exprs fd (more_exprs buf (more_exprs n no_exprs))) (a ∷ b ∷ []) h k = absurd k.1.1
-  read_three t u (more_exprs fd (more_exprs buf (more_exprs n no_exprs))) (a ∷ b ∷ c ∷ d ∷ vs) h k = absurd k.1.1.1
-  read_three t u (more_exprs fd (more_exprs buf (more_exprs n no_exprs))) (a ∷ b ∷ c ∷ []) h k =
-      read_fits fd buf n a b c (is_of fd int a h.0 h.1 k.0) (is_of n unsigned_int c h.2.2.0 h.2.2.1 k.1.1.0)
+  -- the first of the arguments with its value, and the others
+  first_of : (P : Exprs → List Value → Type 0) (t : CType) (ts : CTypes) → ((e : Expr) (es : Exprs) (v : Value) (vs : List Value) → IsOf (constant_value e) t v → AreArguments p vars ts es → AreConstants es vs → P (more_exprs e es) (v ∷ vs)) → (es : Exprs) (vs : List Value) → AreArguments p vars (more_types t ts) es → AreConstants es vs → P es vs
+  first_of P t ts all (more_exprs e es) (v ∷ vs) h k = all e es v vs (is_of e t v h.0 h.1 k.0) h.2 k.1
+  first_of P t ts all no_exprs vs h k = absurd h
+  first_of P t ts all es vs h k = absurd k
 
-  write_three : (u w : CType) (es : Exprs) (vs : List Value) → AreArguments p vars (more_types int (more_types u (more_types w no_types))) es → AreConstants es vs → RequestFits (entries (Signed ∷ Bytes ∷ []) es) (request 1 m vs)
-  write_three u w no_exprs vs h k = absurd h
-  write_three u w (more_exprs fd no_exprs) vs h k = absurd h.2
-  write_three u w (more_exprs fd (more_exprs buf no_exprs)) vs h k = absurd h.2.2
-  write_three u w (more_exprs fd (more_exprs buf (more_exprs n (more_exprs x es)))) vs h k = absurd h.2.2.2
-  write_three u w (more_exprs fd (more_exprs buf (more_exprs n no_exprs))) [] h k = absurd k
-  write_three u w (more_exprs fd (more_exprs buf (more_exprs n no_exprs))) (a ∷ []) h k = absurd k.1
-  write_three u w (more_exprs fd (more_exprs buf (more_exprs n no_exprs))) (a ∷ b ∷ []) h k = absurd k.1.1
-  write_three u w (more_exprs fd (more_exprs buf (more_exprs n no_exprs))) (a ∷ b ∷ c ∷ d ∷ vs) h k = absurd k.1.1.1
-  write_three u w (more_exprs fd (more_exprs buf (more_exprs n no_exprs))) (a ∷ b ∷ c ∷ []) h k =
-      write_fits fd a b c (is_of fd int a h.0 h.1 k.0)
+  three : (P : Exprs → List Value → Type 0) (t u w : CType) → ((d e f : Expr) (a b c : Value) → IsOf (constant_value d) t a → IsOf (constant_value f) w c → P (more_exprs d (more_exprs e (more_exprs f no_exprs))) (a ∷ b ∷ c ∷ [])) → (es : Exprs) (vs : List Value) → AreArguments p vars (more_types t (more_types u (more_types w no_types))) es → AreConstants es vs → P es vs
+  three P t u w all =
+      first_of P t (more_types u (more_types w no_types)) (λ d es a vs i. first_of (λ es vs. P (more_exprs d es) (a ∷ vs)) u (more_types w no_types) (λ e es b vs j. first_of (λ es vs. P (more_exprs d (more_exprs e es)) (a ∷ b ∷ vs)) w no_types (λ f es c vs l. last d e f a b c i l es vs) es vs) es vs)
+    where
+      last : (d e f : Expr) (a b c : Value) → IsOf (constant_value d) t a → IsOf (constant_value f) w c → (es : Exprs) (vs : List Value) → AreArguments p vars no_types es → AreConstants es vs → P (more_exprs d (more_exprs e (more_exprs f es))) (a ∷ b ∷ c ∷ vs)
+      last d e f a b c i l no_exprs [] h k = all d e f a b c i l
+      last d e f a b c i l no_exprs vs h k = absurd k
+      last d e f a b c i l es vs h k = absurd h
+
+  -- three arguments
+  read_three : (es : Exprs) (vs : List Value) → AreArguments p vars (more_types int (more_types char_pointer (more_types unsigned_int no_types))) es → AreConstants es vs → RequestFits (entries (Signed ∷ Unsigned ∷ []) (recorded_arguments 0 es)) (request 0 m vs)
+  read_three =
+      three (λ es vs. RequestFits (entries (Signed ∷ Unsigned ∷ []) (recorded_arguments 0 es)) (request 0 m vs)) int char_pointer unsigned_int (λ fd buf n a b c i l. read_fits fd buf n a b c i l)
+
+  write_three : (es : Exprs) (vs : List Value) → AreArguments p vars (more_types int (more_types char_pointer (more_types unsigned_int no_types))) es → AreConstants es vs → RequestFits (entries (Signed ∷ Bytes ∷ []) es) (request 1 m vs)
+  write_three =
+      three (λ es vs. RequestFits (entries (Signed ∷ Bytes ∷ []) es) (request 1 m vs)) int char_pointer unsigned_int (λ fd buf n a b c i l. write_fits fd a b c i)
 
 -- the kinds in the table of system calls are those of the prototypes' types, but for read, whose buffer is not recorded
 abbrev row_is : Row → CType → Bool
@@ -326,9 +279,8 @@ row_is r (function t ts) = kinds_are r.recorded ts
 row_is r _ = true
 
 abbrev rows_are : List Row → List CType → Bool
-rows_are [] ts = true
-rows_are (r ∷ rs) [] = true
 rows_are (r ∷ rs) (t ∷ ts) = row_is r t && rows_are rs ts
+rows_are a ts = true
 
 abbrev no_row : Row
 no_row = row [] [] Void
@@ -344,14 +296,12 @@ row_at (r ∷ rs) (u ∷ all) zero t ts h e = ap (λ u. row_is r u) (sym (same_s
 row_at (r ∷ rs) (u ∷ all) (suc x) t ts h e = row_at rs all x t ts (and_right (row_is r u) (rows_are rs all) h) e
 
 got_after : {X : Type 0} (xs : List X) (x : ℕ) → slice_get (drop 2 xs) x ≡ slice_get xs (suc (suc x))
-got_after [] x = refl
 got_after (a ∷ []) x = refl
-got_after (a ∷ b ∷ xs) x = refl
+got_after xs x = refl
 
 index_after : {X : Type 0} (xs : List X) (d : X) (x : ℕ) → slice_index_or (drop 2 xs) x d ≡ slice_index_or xs (suc (suc x)) d
-index_after [] d x = refl
 index_after (a ∷ []) d x = refl
-index_after (a ∷ b ∷ xs) d x = refl
+index_after xs d x = refl
 
 kinds_right : (x : ℕ) (t : CType) (ts : CTypes) → slice_get sys_types (suc (suc x)) ≡ Some (function t ts) → kinds_are (recorded_of (suc (suc x))) ts ≡ true
 kinds_right x t ts e =
@@ -382,7 +332,7 @@ pub request_fits : (p : Program) (vars : List CType) (m : Objects) (x : ℕ) (t 
 request_fits p vars m x t ts es vs e h k q is = subst (λ a. RequestFits p vars m (pattern_of x es) a) is (at x e)
   where
     at : (x : ℕ) → slice_get sys_types x ≡ Some (function t ts) → RequestFits p vars m (pattern_of x es) (request x m vs)
-    at zero e = subst (λ kinds. RequestFits p vars m (entries kinds (recorded_arguments 0 es)) (request 0 m vs)) read_kinds (read_three p vars m int char_pointer es vs (subst (λ ts. AreArguments p vars ts es) (sym (read_types t ts e)) h) k)
-    at (suc zero) e = subst (λ kinds. RequestFits p vars m (entries kinds es) (request 1 m vs)) write_kinds (write_three p vars m char_pointer unsigned_int es vs (subst (λ ts. AreArguments p vars ts es) (sym (write_types t ts e)) h) k)
+    at zero e = subst (λ kinds. RequestFits p vars m (entries kinds (recorded_arguments 0 es)) (request 0 m vs)) read_kinds (read_three p vars m es vs (subst (λ ts. AreArguments p vars ts es) (sym (read_types t ts e)) h) k)
+    at (suc zero) e = subst (λ kinds. RequestFits p vars m (entries kinds es) (request 1 m vs)) write_kinds (write_three p vars m es vs (subst (λ ts. AreArguments p vars ts es) (sym (write_types t ts e)) h) k)
     at (suc (suc x)) e =
         if_then {A = List Arg} {B = Request} (λ rest. FitArguments (pattern_of (suc (suc x)) es) rest) (λ q. FitArguments (pattern_of (suc (suc x)) es) q.arguments) (arguments m vs) _ (args_fit p vars m (recorded_of (suc (suc x))) ts es vs (kinds_right x t ts e) h k) (λ rest j. j)

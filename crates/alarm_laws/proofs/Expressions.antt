@@ -1,6 +1,5 @@
 -- What expressions do is said by their shapes: one line for each form.
 use Rattle.std.proofs.Common.{◌≡◌, ℕ, Bool, true, false, List, [], ◌∷◌, ◌++◌, Contains, Option, Some, None, slice_get, refl, sym, ◌∙◌, subst}
-use Rattle.std.proofs.lemmas.List.Elements.{Contains-append_left, Contains-append_right}
 use Rattle.dm_base.specs.declared.event.Event.{Event}
 use Rattle.c_tree.specs.declared.value.Value.{Value}
 use Rattle.c_tree.specs.Tree.{CType, function, CTypes, no_types, more_types, Function, Program, type_of}
@@ -22,7 +21,7 @@ use Rattle.c_meaning.specs.Meaning.{Marks, Frame, Loop as LoopOf, either, tested
 use Rattle.c_meaning.specs.Pointers.{callee, truth_value, load_place, store_place, member, difference}
 use Rattle.c_meaning.specs.Results.{State, Result, Go, Stop, then_do, answered, remembered, Exit}
 use Rattle.c_meaning.specs.Runs.{world}
-use Rattle.alarm_laws.proofs.Lists.{is_first, is_later, same_some, no_some}
+use Rattle.alarm_laws.proofs.Lists.{each_left, each_right, each_first, each_rest, same_some, no_some}
 use Rattle.alarm_laws.proofs.Words.{Stands, here, inside, beyond}
 use Rattle.alarm_laws.proofs.Says.{Gives, gives_any, gives_both, then_gives, tested_gives, Tells, left_by, Straight, after_tells, answered_then, remembered_tells, either_tells, then_left, Says, SaysAll, seq_says, left_says, right_says, part_alone, part_then, part_last, then_quiet, none_quiet, tested_says}
 use Rattle.alarm_laws.proofs.Constants.{AreConstants, constant_is}
@@ -30,16 +29,10 @@ use Rattle.alarm_laws.proofs.Guards.{Mentioned, IsGuarded, IsTied}
 use Rattle.alarm_laws.proofs.Calls.{Entered, called_says, through_at}
 
 pub mentioned_left : (p : Program) (xs ys : List Mention) → Mentioned p (xs ++ ys) → Mentioned p xs
-mentioned_left p xs ys h x k = h x (Contains-append_left xs ys x k)
+mentioned_left p = each_left (Contains (mentions_of_program p))
 
 pub mentioned_right : (p : Program) (xs ys : List Mention) → Mentioned p (xs ++ ys) → Mentioned p ys
-mentioned_right p xs ys h x k = h x (Contains-append_right xs ys x k)
-
-mentioned_first : (p : Program) (x : Mention) (xs : List Mention) → Mentioned p (x ∷ xs) → Contains (mentions_of_program p) x
-mentioned_first p x xs h = h x (is_first x xs)
-
-mentioned_rest : (p : Program) (x : Mention) (xs : List Mention) → Mentioned p (x ∷ xs) → Mentioned p xs
-mentioned_rest p x xs h y k = h y (is_later x xs y k)
+mentioned_right p = each_right (Contains (mentions_of_program p))
 
 module _ (p : Program) (n : ℕ) (right : IsProgram p n) (marks : Marks) (m : F.Marks) (keep : Event → List Event) (ties : IsTied p marks m keep) (Good : Frame → State → Type 0) (Passed : CTypes → List Value → State → Type 0) (guard : IsGuarded p marks Good Passed) where
   abbrev env : Shapes
@@ -175,25 +168,25 @@ module _ (p : Program) (n : ℕ) (right : IsProgram p n) (marks : Marks) (m : F.
           branch (shape p c) (shape p a) (shape p b) (E true c st) (E true a) (E true b) (value_says true c h.0.1 i st g) (guard.value k fr true c st h.0.1 i g) (value_says true a h.3 (mentioned_left p (mentions a) (mentions b) j)) (value_says true b h.4 (mentioned_right p (mentions a) (mentions b) j))
       value_says wanted (comma t es) h l st g = seq_says env m keep {A = Value} Straight (shapes_before p es End) _ (members_say wanted t es h l st g)
       value_says wanted (call t s f es) h l st g =
-          let i = mentioned_rest p (Calls s (Direct f)) (mentions_of_all es) l in
-          seq_says env m keep {A = Value} Straight (shapes_before p es (Part (direct_call p s f es) End)) _ (args_then es (Part (direct_call p s f es) End) (λ vs u. AreConstants es vs × Passed h.0 vs u) (eval_all p (world p marks k) marks fr es st) _ (arguments_say h.0 es h.2 i st g) (passed h.0 es st h.2 i g) (λ vs st j. part_alone env m keep {A = Value} Straight (direct_call p s f es) _ (called_says p n right marks m keep ties (world p marks k) (wants wanted t) s f t h.0 fr.types es vs st (mentioned_first p (Calls s (Direct f)) (mentions_of_all es) l) h.1 h.2 j.0 (λ c is type. goes.enter (wants wanted t) f c t h.0 vs st is type j.1))))
+          let i = each_rest (Contains (mentions_of_program p)) (Calls s (Direct f)) (mentions_of_all es) l in
+          seq_says env m keep {A = Value} Straight (shapes_before p es (Part (direct_call p s f es) End)) _ (args_then es (Part (direct_call p s f es) End) (λ vs u. AreConstants es vs × Passed h.0 vs u) (eval_all p (world p marks k) marks fr es st) _ (arguments_say h.0 es h.2 i st g) (passed h.0 es st h.2 i g) (λ vs st j. part_alone env m keep {A = Value} Straight (direct_call p s f es) _ (called_says p n right marks m keep ties (world p marks k) (wants wanted t) s f t h.0 fr.types es vs st (each_first (Contains (mentions_of_program p)) (Calls s (Direct f)) (mentions_of_all es) l) h.1 h.2 j.0 (λ c is type. goes.enter (wants wanted t) f c t h.0 vs st is type j.1))))
       value_says wanted (call_through t s a es) h l st g =
           let c = Calls s (Through (type_of a)) in
           let i = mentioned_left p (mentions a) (c ∷ mentions_of_all es) l in
           let j = mentioned_right p (mentions a) (c ∷ mentions_of_all es) l in
-          let o = mentioned_first p c (mentions_of_all es) j in
+          let o = each_first (Contains (mentions_of_program p)) c (mentions_of_all es) j in
           let d = marked_call p s (Through (type_of a)) in
           seq_says env m keep {A = Value} Straight (Part (shape p a) (shapes_before p es (Part d End))) _ (part_then env m keep {A = Value} {B = Value} Straight (shape p a) (shapes_before p es (Part d End)) (λ v u. Good fr u × ((f : ℕ) → callee v ≡ gives f → Contains (callees p (Through (type_of a))) f)) (E true a st) _ (value_says true a h.2 i st g) (gives_both {A = Value} (λ v u. Good fr u) (λ v u. (f : ℕ) → callee v ≡ gives f → Contains (callees p (Through (type_of a))) f) (E true a st) (guard.value k fr true a st h.2 i g) (guard.designator k fr s a t h.0 st h.1 h.2 i o g)) (λ v st q.
-          args_then es (Part d End) (λ vs u. AreConstants es vs × Passed h.0 vs u) (eval_all p (world p marks k) marks fr es st) _ (arguments_say h.0 es h.3 (mentioned_rest p c (mentions_of_all es) j) st q.0) (passed h.0 es st h.3 (mentioned_rest p c (mentions_of_all es) j) q.0) (λ vs st r.
+          args_then es (Part d End) (λ vs u. AreConstants es vs × Passed h.0 vs u) (eval_all p (world p marks k) marks fr es st) _ (arguments_say h.0 es h.3 (each_rest (Contains (mentions_of_program p)) c (mentions_of_all es) j) st q.0) (passed h.0 es st h.3 (each_rest (Contains (mentions_of_program p)) c (mentions_of_all es) j) q.0) (λ vs st r.
           part_alone env m keep {A = Value} Straight d _ (through_at p n right marks m keep ties (world p marks k) (wants wanted t) (type_of a) s (function t h.0) vs st v h.1 o (λ f b is type. goes.enter (wants wanted t) f b t h.0 vs st is type r.1) q.1))))
       value_says wanted _ h l st g = absurd h
 
       pub place_says : (wanted : Bool) (e : Expr) → IsPlace p fr.types e → Mentioned p (mentions e) → (st : State) → Good fr st → Saying (shape p e) (E wanted e st)
+      place_says wanted (dereference t a) h l st g = one (shape p a) (E true a st) (λ s x. behind_of t s.memory x) (value_says true a h.2 l st g)
+      place_says wanted (field t first a) h l st g = one (shape p a) (E true a st) (λ s x. member first (cells p.structs t) x) (place_says true a h.1 l st g)
       place_says wanted (function_name t f) h l st g = λ u. F.skip
       place_says wanted (string_place t i) h l st g = λ u. F.skip
       place_says wanted (variable t s i) h l st g = λ u. F.skip
-      place_says wanted (dereference t a) h l st g = one (shape p a) (E true a st) (λ s x. behind_of t s.memory x) (value_says true a h.2 l st g)
-      place_says wanted (field t first a) h l st g = one (shape p a) (E true a st) (λ s x. member first (cells p.structs t) x) (place_says true a h.1 l st g)
       place_says wanted _ h l st g = absurd h
 
       members_say : (wanted : Bool) (t : CType) (es : Exprs) → AreMembers p fr.types t es → Mentioned p (mentions_of_all es) → (st : State) → Good fr st → SaysAll env m keep {A = Value} Straight (shapes_before p es End) (eval_each p (world p marks k) marks fr wanted es st)

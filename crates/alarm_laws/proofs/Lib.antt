@@ -1,6 +1,5 @@
 pub mod Calls
 pub mod Constants
-pub mod Entering
 pub mod Expressions
 pub mod Guards
 pub mod Lists

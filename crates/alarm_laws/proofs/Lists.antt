@@ -1,8 +1,9 @@
 -- Members of lists, and tests.
-use Rattle.std.proofs.Common.{◌≡◌, inl, inr, ℕ, zero, suc, ◌+◌, Bool, true, false, ◌||◌, nat_eq, if◌then◌else◌, List, [], ◌∷◌, ◌++◌, flat_map, Contains, Some, None, slice_get, refl, ap, sym, ◌∙◌, subst, arith}
+use Rattle.std.proofs.Common.{◌≡◌, inl, inr, ℕ, Bool, true, false, ◌||◌, nat_eq, if◌then◌else◌, List, [], ◌∷◌, ◌++◌, Contains, Some, None, slice_get, refl, ap, sym, ◌∙◌}
 use Rattle.std.specs.Cmp.{nat_eq_equiv}
 use Rattle.std.proofs.lemmas.Bool.{false≢true}
 use Rattle.std.proofs.lemmas.List.Elements.{Contains-append_left, Contains-append_right}
+use Rattle.std.proofs.lemmas.Option.{slice_get_within, get_or_from_slice_get}
 use Rattle.c_shapes.specs.CallGraph.{is_in, has_one}
 pub use Rattle.c_shapes.proofs.Members.{and_left, and_right, or_false_left, or_false_right, below, is_below, not_below, isnt_below, same_number, other_number, is_first, is_later, cases, none_in, from_filter, in_filter, in_map, in_range, from_range}
 
@@ -44,13 +45,20 @@ pub no_some : {X : Type 0} (x : X) → None ≡ Some x → ⊥
 no_some x e = cc
 
 pub got_in : {X : Type 0} (xs : List X) (k : ℕ) (x : X) → slice_get xs k ≡ Some x → Contains xs x
-got_in [] k x e = absurd (no_some x e)
-got_in (y ∷ xs) zero x e = (0, omega arith, same_some y x e)
-got_in (y ∷ xs) (suc k) x e = is_later y xs x (got_in xs k x e)
+got_in xs k x e = (k, slice_get_within xs k x e, get_or_from_slice_get xs k x x e)
 
-pub in_flat_map : {X Y : Type 0} (f : X → List Y) (xs : List X) (x : X) (y : Y) → Contains xs x → Contains (f x) y → Contains (flat_map f xs) y
-in_flat_map f [] x y h k = absurd (none_in x h)
-in_flat_map f (z ∷ xs) x y h k = elim (cases z xs x h) as (λ q. Contains (f z ++ flat_map f xs) y) [
-  | inl is ↦ Contains-append_left (f z) (flat_map f xs) y (subst (λ z. Contains (f z) y) (sym is) k)
-  | inr q ↦ Contains-append_right (f z) (flat_map f xs) y (in_flat_map f xs x y q k)
-]
+-- what holds of all items holds of those of a part
+abbrev pub Each : {X : Type 0} → (X → Type 0) → List X → Type 0
+Each {X = X} P xs = (x : X) → Contains xs x → P x
+
+pub each_left : {X : Type 0} (P : X → Type 0) (xs ys : List X) → Each P (xs ++ ys) → Each P xs
+each_left P xs ys h x k = h x (Contains-append_left xs ys x k)
+
+pub each_right : {X : Type 0} (P : X → Type 0) (xs ys : List X) → Each P (xs ++ ys) → Each P ys
+each_right P xs ys h x k = h x (Contains-append_right xs ys x k)
+
+pub each_first : {X : Type 0} (P : X → Type 0) (x : X) (xs : List X) → Each P (x ∷ xs) → P x
+each_first P x xs h = h x (is_first x xs)
+
+pub each_rest : {X : Type 0} (P : X → Type 0) (x : X) (xs : List X) → Each P (x ∷ xs) → Each P xs
+each_rest P x xs h y k = h y (is_later x xs y k)

@@ -6,7 +6,7 @@ use Rattle.std.proofs.lemmas.Bool.{false≢true}
 use Rattle.dm_base.specs.declared.event.Event.{Event}
 use Rattle.c_tree.specs.declared.value.Value.{Value}
 use Rattle.c_tree.specs.declared.tree.TLabel.{TLabel}
-use Rattle.c_tree.specs.declared.tree.TLabel.TheVariants.{Case, Default}
+use Rattle.c_tree.specs.declared.tree.TLabel.TheVariants.{Case}
 use Rattle.c_tree.specs.Tree.{Groups, no_groups, more_groups}
 use Rattle.c_meaning.specs.Meaning.{either, is_case, is_default, group_with, count_groups, or_else, selected}
 use Rattle.c_meaning.specs.Results.{State, Result, Go, Stop, then_do, Exit, on, broken, continued, returned, on_round}
@@ -77,14 +77,12 @@ module _ (env : Shapes) (m : Marks) (keep : Event → List Event) where
 
 -- which group a switch goes on at
 labels_default : (ls : List TLabel) → has_default_label ls ≡ list_any is_default ls
-labels_default [] = refl
 labels_default (Case v ∷ ls) = labels_default ls
-labels_default (Default ∷ ls) = refl
+labels_default ls = refl
 
 found_from : (b : Bool) (o : Option ℕ) (n : ℕ) → ((k : ℕ) → o ≡ Some k → k < n) → (k : ℕ) → (if b then Some 0 else option_map suc o) ≡ Some k → k < suc n
-found_from true o n h k e = grind (arith, e)
-found_from false None n h k e = grind (arith, e)
 found_from false (Some j) n h k e = let i = h j refl in grind (arith, e, i)
+found_from b o n h k e = grind (arith, e)
 
 group_within : (is : TLabel → Bool) (gs : Groups) (k : ℕ) → group_with is gs ≡ Some k → k < count_groups gs
 group_within is no_groups k e = grind (arith, e)

@@ -24,8 +24,7 @@ every e = e ∷ []
 -- null calls are not read
 abbrev pub system_calls : Event → List Event
 system_calls (Sys x xs r) = Sys x xs r ∷ []
-system_calls (Pre s) = []
-system_calls (Post s) = []
+system_calls a = []
 
 pub told_every : (t : List Event) → told every t ≡ t
 told_every [] = refl

@@ -1,5 +1,6 @@
 -- A word of a program's language is accepted by the monitor of the program's graph.
-use Rattle.std.proofs.Common.{◌≡◌, ℕ, zero, suc, ◌≤◌, List, [], ◌∷◌, ◌++◌, take, drop, refl, ap, subst, arith}
+use Rattle.std.proofs.Common.{ℕ, suc, ◌≤◌, List, ◌∷◌, take, drop, refl, sym, subst, arith}
+use Rattle.std.proofs.lemmas.List.{take-append-drop}
 use Rattle.dm_base.specs.declared.event.Event.{Event}
 use Rattle.dm_base.specs.declared.event.Event.TheVariants.{Sys, Pre, Post}
 use Rattle.dm_base.specs.Trace.{depth}
@@ -20,18 +21,12 @@ use Rattle.flow_graph_laws.proofs.ProgramsClosed.{closed, many_names}
 use Rattle.alarm_laws.specs.Monitors.{IsAcceptedByBoth, IsAcceptedByAll, MonitorsAcceptRuns, MonitorsAcceptMarkedRuns}
 use Rattle.alarm_laws.proofs.NoAlarm.{runs_raise_none, marked_runs_raise_none}
 
-cut : {X : Type 0} (k : ℕ) (xs : List X) → xs ≡ take k xs ++ drop k xs
-cut zero xs = refl
-cut (suc k) [] = refl
-cut (suc k) (x ∷ xs) = ap (λ z. x ∷ z) (cut k xs)
-
 -- no first part is deeper than the whole
 depth_cut : (k : ℕ) (t : List Event) → depth (take k t) ≤ depth t
-depth_cut zero t = omega arith
-depth_cut (suc k) [] = omega arith
 depth_cut (suc k) (Sys x xs r ∷ t) = depth_cut k t
 depth_cut (suc k) (Pre s ∷ t) = let h = depth_cut k t in omega (arith, h)
 depth_cut (suc k) (Post s ∷ t) = let h = depth_cut k t in omega (arith, h)
+depth_cut k t = omega arith
 
 module _ (p : Program) (n : ℕ) (right : IsProgram p n) where
   dyck_same : AreEqual (Dyck p) (Reads which.Dyck (graph_of_program p))
@@ -44,12 +39,12 @@ module _ (p : Program) (n : ℕ) (right : IsProgram p n) where
   callgraph_same = graphs.callgraph (names_of_functions p) (shapes_of p) (closed p n right) (many_names p)
 
   dyck_at : (t : List Event) (k : ℕ) → Dyck p t → Reads which.Dyck (graph_of_program p) (take k t)
-  dyck_at t k h = dyck_same.into (take k t) (dyck_front (shapes_of p) (take k t) (drop k t) (subst (Dyck p) (cut k t) h))
+  dyck_at t k h = dyck_same.into (take k t) (dyck_front (shapes_of p) (take k t) (drop k t) (subst (Dyck p) (sym (take-append-drop k t)) h))
 
   both : (t : List Event) (bound : ℕ) → Stack p t → Callgraph p t → IsAcceptedByBoth (graph_of_program p) bound t
   both t bound h l = record {
-    callgraph = (refl, record { kept = λ k le. callgraph_same.into (take k t) (callgraph_front (shapes_of p) (take k t) (drop k t) (subst (Callgraph p) (cut k t) l)) });
-    stack = (refl, record { kept = λ k le. stack_same.into (take k t) (stack_front (shapes_of p) (take k t) (drop k t) (subst (Stack p) (cut k t) h)) });
+    callgraph = (refl, record { kept = λ k le. callgraph_same.into (take k t) (callgraph_front (shapes_of p) (take k t) (drop k t) (subst (Callgraph p) (sym (take-append-drop k t)) l)) });
+    stack = (refl, record { kept = λ k le. stack_same.into (take k t) (stack_front (shapes_of p) (take k t) (drop k t) (subst (Stack p) (sym (take-append-drop k t)) h)) });
   }
 
   all : (t : List Event) (bound : ℕ) → Dyck p t → IsAcceptedByAll (graph_of_program p) bound t

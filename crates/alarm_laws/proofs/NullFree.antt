@@ -3,10 +3,10 @@ use Rattle.std.proofs.Common.{◌≡◌, ◌≢◌, inl, inr, ℕ, suc, ◌+◌,
 use Rattle.std.proofs.lemmas.List.Elements.{Contains-append_cases}
 use Rattle.c_tree.specs.declared.value.Value.{Value}
 use Rattle.c_tree.specs.declared.value.Value.TheVariants as v
-use Rattle.c_tree.specs.Tree.{Expr, constant, function_name, string_place, variable, dereference, load, address_of, decay, discard, field, unary_operation, conversion, arithmetic, comparison, pointer_add, pointer_diff, and, or, assign, update, conditional, comma, call, call_through, type_of}
+use Rattle.c_tree.specs.Tree.{Expr, function_name, dereference, load, address_of, decay, discard, field, unary_operation, conversion, arithmetic, comparison, pointer_add, pointer_diff, and, or, assign, update, conditional, comma, call, call_through, type_of}
 use Rattle.c_tree.specs.Tree.{Exprs, no_exprs, more_exprs, Maybe, absent, there, Inits, no_inits, more_inits}
-use Rattle.c_tree.specs.Tree.{Stmt, block, empty, evaluate, declare, if_else, while_loop, do_loop, for_loop, switch_on, break_off, continue_on, return_void, return_value, Stmts, no_stmts, more_stmts, Groups, no_groups, more_groups}
-use Rattle.c_tree.specs.Tree.{Function, Static, Program}
+use Rattle.c_tree.specs.Tree.{Stmt, block, evaluate, declare, if_else, while_loop, do_loop, for_loop, switch_on, return_value, Stmts, no_stmts, more_stmts, Groups, no_groups, more_groups}
+use Rattle.c_tree.specs.Tree.{Static, Program}
 use Rattle.c_tree.specs.Functions.{defined}
 use Rattle.c_shapes.specs.Mentions.{Direct, Through, Mention, Named, Calls, mentions, mentions_of_all, mentions_of_maybe, mentions_of_inits, mentions_of_stmt, mentions_of_stmts, mentions_of_groups, mentions_of_function, mention_of_cell, mentions_of_static, mentions_of_program}
 use Rattle.c_meaning.specs.WithoutNullCalls.{IsFree, AreFree, IsFreeMaybe, AreFreeInits, IsFreeStmt, AreFreeStmts, AreFreeGroups, MakesNoNullCall}
@@ -15,9 +15,8 @@ use Rattle.alarm_laws.proofs.Lists.{cases, none_in}
 module _ (n : ℕ) where
   -- no call of one of the two null calls by its name
   abbrev pub IsOther : Mention → Type 0
-  IsOther (Named f) = Unit {0}
   IsOther (Calls s (Direct f)) = (f ≢ n + 24) × (f ≢ n + 25)
-  IsOther (Calls s (Through t)) = Unit {0}
+  IsOther a = Unit {0}
 
   abbrev AreOther : List Mention → Type 0
   AreOther ms = (x : Mention) → Contains ms x → IsOther x
@@ -33,10 +32,7 @@ module _ (n : ℕ) where
 
   mutual
     free_expr : (e : Expr) → IsFree n e → AreOther (mentions e)
-    free_expr (constant t v) h = none
     free_expr (function_name t f) h = more (Named f) [] tt none
-    free_expr (string_place t n) h = none
-    free_expr (variable t is_static n) h = none
     free_expr (dereference t a) h = free_expr a h
     free_expr (load t a) h = free_expr a h
     free_expr (address_of t a) h = free_expr a h
@@ -57,6 +53,7 @@ module _ (n : ℕ) where
     free_expr (comma t es) h = free_exprs es h
     free_expr (call t s f es) h = more (Calls s (Direct f)) (mentions_of_all es) (h.0, h.1) (free_exprs es h.2)
     free_expr (call_through t s a es) h = join (mentions a) (Calls s (Through (type_of a)) ∷ mentions_of_all es) (free_expr a h.0) (more (Calls s (Through (type_of a))) (mentions_of_all es) tt (free_exprs es h.1))
+    free_expr e h = none
 
     free_exprs : (es : Exprs) → AreFree n es → AreOther (mentions_of_all es)
     free_exprs no_exprs h = none
@@ -73,7 +70,6 @@ module _ (n : ℕ) where
   mutual
     free_stmt : (s : Stmt) → IsFreeStmt n s → AreOther (mentions_of_stmt s)
     free_stmt (block ss) h = free_stmts ss h
-    free_stmt empty h = none
     free_stmt (evaluate e) h = free_expr e h
     free_stmt (declare x is) h = free_inits is h
     free_stmt (if_else e s u) h = join (mentions e) (mentions_of_stmt s ++ mentions_of_stmt u) (free_expr e h.0) (join (mentions_of_stmt s) (mentions_of_stmt u) (free_stmt s h.1) (free_stmt u h.2))
@@ -81,10 +77,8 @@ module _ (n : ℕ) where
     free_stmt (do_loop s e) h = join (mentions_of_stmt s) (mentions e) (free_stmt s h.0) (free_expr e h.1)
     free_stmt (for_loop first test step s) h = join (mentions_of_stmts first) (mentions_of_maybe test ++ (mentions_of_maybe step ++ mentions_of_stmt s)) (free_stmts first h.0) (join (mentions_of_maybe test) (mentions_of_maybe step ++ mentions_of_stmt s) (free_maybe test h.1) (join (mentions_of_maybe step) (mentions_of_stmt s) (free_maybe step h.2) (free_stmt s h.3)))
     free_stmt (switch_on e gs) h = join (mentions e) (mentions_of_groups gs) (free_expr e h.0) (free_groups gs h.1)
-    free_stmt break_off h = none
-    free_stmt continue_on h = none
-    free_stmt return_void h = none
     free_stmt (return_value e) h = free_expr e h
+    free_stmt s h = none
 
     free_stmts : (ss : Stmts) → AreFreeStmts n ss → AreOther (mentions_of_stmts ss)
     free_stmts no_stmts h = none
@@ -94,23 +88,15 @@ module _ (n : ℕ) where
     free_groups no_groups h = none
     free_groups (more_groups ls ss gs) h = join (mentions_of_stmts ss) (mentions_of_groups gs) (free_stmts ss h.0) (free_groups gs h.1)
 
-  free_functions : (fs : List Function) → ((f : ℕ) (g : Function) → slice_get fs f ≡ Some g → IsFreeStmt n g.body) → AreOther (flat_map mentions_of_function fs)
-  free_functions [] h = none
-  free_functions (g ∷ fs) h = join (mentions_of_function g) (flat_map mentions_of_function fs) (free_stmt g.body (h 0 g refl)) (free_functions fs (λ f g e. h (suc f) g e))
-
   other_cell : (x : Value) → AreOther (mention_of_cell x)
   other_cell (v.Func f) = more (Named f) [] tt none
   other_cell _ = none
 
-  other_cells : (xs : List Value) → AreOther (flat_map mention_of_cell xs)
-  other_cells [] = none
-  other_cells (x ∷ xs) = join (mention_of_cell x) (flat_map mention_of_cell xs) (other_cell x) (other_cells xs)
-
-  other_statics : (ss : List Static) → AreOther (flat_map mentions_of_static ss)
-  other_statics [] = none
-  other_statics (s ∷ ss) = join (mentions_of_static s) (flat_map mentions_of_static ss) (other_cells s.cells) (other_statics ss)
+  each_other : {X : Type 0} (f : X → List Mention) (xs : List X) → ((k : ℕ) (x : X) → slice_get xs k ≡ Some x → AreOther (f x)) → AreOther (flat_map f xs)
+  each_other f [] h = none
+  each_other f (x ∷ xs) h = join (f x) (flat_map f xs) (h 0 x refl) (each_other f xs (λ k y e. h (suc k) y e))
 
 -- no call of the program is a null call
 pub calls_others : (p : Program) → MakesNoNullCall p → (x : Mention) → Contains (mentions_of_program p) x → IsOther (defined p) x
 calls_others p h =
-    join (defined p) (flat_map mentions_of_function p.functions) (flat_map mentions_of_static p.statics) (free_functions (defined p) p.functions h) (other_statics (defined p) p.statics)
+    join (defined p) (flat_map mentions_of_function p.functions) (flat_map mentions_of_static p.statics) (each_other (defined p) mentions_of_function p.functions (λ f g e. free_stmt (defined p) g.body (h f g e))) (each_other (defined p) mentions_of_static p.statics (λ k (s : Static) e. each_other (defined p) mention_of_cell s.cells (λ j x d. other_cell (defined p) x)))

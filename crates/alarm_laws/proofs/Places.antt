@@ -1,9 +1,9 @@
 -- The functions of a program's shapes, by their places.
-use Rattle.std.proofs.Common.{◌≡◌, inl, inr, ℕ, zero, suc, ◌+◌, ◌-◌, ◌<◌, ◌≤◌, Bool, true, false, ◌&&◌, nat_lt, if◌then◌else◌, List, [], ◌∷◌, ◌++◌, map, filter, length, Contains, Option, Some, None, slice_get, slice_index_or, refl, ap, sym, ◌∙◌, arith}
+use Rattle.std.proofs.Common.{◌≡◌, inl, inr, ℕ, zero, suc, ◌+◌, ◌-◌, ◌<◌, ◌≤◌, Bool, true, false, ◌&&◌, nat_lt, if◌then◌else◌, List, [], ◌∷◌, ◌++◌, map, filter, length, Contains, Option, Some, None, option_map, slice_get, slice_index_or, refl, ap, sym, ◌∙◌, arith}
 use Rattle.std.specs.List.{range_with_len}
 use Rattle.std.proofs.Common.{length-append}
 use Rattle.std.proofs.lemmas.Bool.{false≢true}
-use Rattle.std.proofs.lemmas.Option.{slice_get_within}
+use Rattle.std.proofs.lemmas.Option.{slice_get_within, slice_get-map}
 use Rattle.c_tree.specs.Tree.{CType, pointer, Function, Program}
 use Rattle.c_tree.specs.Functions.{defined, type_of_defined, value_types, null_types, value_type, called_type, sys_types}
 use Rattle.c_shapes.specs.Shape.{Shape, Skip, shape_of}
@@ -13,29 +13,12 @@ use Rattle.c_shapes.specs.ShapeOf.{shape_of_function, any_call, taken_calls, sha
 use Rattle.c_shapes.proofs.SameTypes.{types_tell}
 use Rattle.alarm_laws.proofs.Lists.{cases, none_in, and_left, and_right, is_below, isnt_below, from_filter, in_filter, from_range, in_range, same_some, no_some}
 use Rattle.c_shapes.proofs.Members.{length_map}
+use Rattle.c_meaning_laws.proofs.Places.{get_before, get_left as get_from}
+use Rattle.c_meaning_laws.proofs.Keeps.{defined_at, undefined_at}
 
--- an element of the first list, or of the second
+-- an element of the first list
 pub get_left : {X : Type 0} (xs ys : List X) (k : ℕ) → k < length xs → slice_get (xs ++ ys) k ≡ slice_get xs k
-get_left [] ys k lt = absurd (omega (arith, lt))
-get_left (x ∷ xs) ys zero lt = refl
-get_left (x ∷ xs) ys (suc k) lt = get_left xs ys k (omega (arith, lt))
-
-pub get_right : {X : Type 0} (xs ys : List X) (k : ℕ) → length xs ≤ k → slice_get (xs ++ ys) k ≡ slice_get ys (k - length xs)
-get_right [] ys k le = let e : k ≡ k - 0 = omega arith in ap (slice_get ys) e
-get_right (x ∷ xs) ys zero le = absurd (omega (arith, le))
-get_right (x ∷ xs) ys (suc k) le =
-    let e : k - length xs ≡ suc k - suc (length xs) = omega arith in
-    get_right xs ys k (omega (arith, le)) ∙ ap (slice_get ys) e
-
-pub got : {X : Type 0} (xs : List X) (k : ℕ) → k < length xs → (x : X) × (slice_get xs k ≡ Some x)
-got [] k lt = absurd (omega (arith, lt))
-got (x ∷ xs) zero lt = (x, refl)
-got (x ∷ xs) (suc k) lt = got xs k (omega (arith, lt))
-
-get_map : {X Y : Type 0} (f : X → Y) (xs : List X) (k : ℕ) (x : X) → slice_get xs k ≡ Some x → slice_get (map f xs) k ≡ Some (f x)
-get_map f [] k x e = absurd (no_some x e)
-get_map f (y ∷ xs) zero x e = ap (λ z. Some (f z)) (same_some y x e)
-get_map f (y ∷ xs) (suc k) x e = get_map f xs k x e
+get_left xs ys k lt = get_before xs ys k lt
 
 index_left : {X : Type 0} (xs ys : List X) (d : X) (k : ℕ) (x : X) → slice_get xs k ≡ Some x → slice_index_or (xs ++ ys) k d ≡ x
 index_left [] ys d k x e = absurd (no_some x e)
@@ -85,7 +68,7 @@ module _ (p : Program) where
   -- the shape of a defined function
   pub shape_at : (f : ℕ) (g : Function) → slice_get p.functions f ≡ Some g → shape_of (shapes_of p) f ≡ shape_of_function p g
   shape_at f g is =
-      index_left (map (shape_of_function p) p.functions) (map any_call (taken_calls p)) Skip f (shape_of_function p g) (get_map (shape_of_function p) p.functions f g is)
+      index_left (map (shape_of_function p) p.functions) (map any_call (taken_calls p)) Skip f (shape_of_function p g) (slice_get-map (shape_of_function p) p.functions f ∙ ap (option_map (shape_of_function p)) is)
 
   pub shape_defined : (f : ℕ) (g : Function) → slice_get p.functions f ≡ Some g → shape_of (shapes_of p) (place_of p f) ≡ shape_of_function p g
   shape_defined f g is =
@@ -126,26 +109,18 @@ module _ (p : Program) where
   many_values = let k = length-append (map type_of_defined p.functions) sys_types in let l = length_map type_of_defined p.functions in omega (arith, k, l)
 
   pub value_defined : (f : ℕ) (t : CType) → value_type p f ≡ Some t → f < defined p → (g : Function) × (slice_get p.functions f ≡ Some g) × (g.ctype ≡ t)
-  value_defined f t e lt =
-      let r = got p.functions f lt in
-      let l = length_map type_of_defined p.functions in
-      let same = sym (get_left (map type_of_defined p.functions) sys_types f (omega (arith, lt, l)) ∙ get_map type_of_defined p.functions f r.0 r.1) ∙ e in
-      (r.0, r.1, same_some (type_of_defined r.0) t same)
+  value_defined f t e lt = defined_at p.functions sys_types f t lt e
 
   called_value : (f : ℕ) → f < defined p + 24 → called_type p f ≡ value_type p f
   called_value f lt = let k = many_values in get_left (value_types p) null_types f (omega (arith, lt, k))
 
   pub type_of_function : (f : ℕ) (g : Function) → slice_get p.functions f ≡ Some g → called_type p f ≡ Some g.ctype
   type_of_function f g is =
-      let lt = slice_get_within p.functions f g is in
-      let l = length_map type_of_defined p.functions in
-      called_value f (omega (arith, lt)) ∙ (get_left (map type_of_defined p.functions) sys_types f (omega (arith, lt, l)) ∙ get_map type_of_defined p.functions f g is)
+      get_from (value_types p) null_types f g.ctype (get_from (map type_of_defined p.functions) sys_types f g.ctype (slice_get-map type_of_defined p.functions f ∙ ap (option_map type_of_defined) is))
 
   pub called_defined : (f : ℕ) (t : CType) → called_type p f ≡ Some t → f < defined p → (g : Function) × (slice_get p.functions f ≡ Some g) × (g.ctype ≡ t)
   called_defined f t e lt = value_defined f t (sym (called_value f (omega (arith, lt))) ∙ e) lt
 
   pub called_system : (f : ℕ) (t : CType) → called_type p f ≡ Some t → defined p ≤ f → f - defined p < 24 → slice_get sys_types (f - defined p) ≡ Some t
   called_system f t e le lt =
-      let l = length_map type_of_defined p.functions in
-      let same : f - length (map type_of_defined p.functions) ≡ f - defined p = omega (arith, l) in
-      sym (called_value f (omega (arith, le, lt)) ∙ (get_right (map type_of_defined p.functions) sys_types f (omega (arith, le, l)) ∙ ap (slice_get sys_types) same)) ∙ e
+      undefined_at p.functions sys_types f t le (sym (called_value f (omega (arith, le, lt))) ∙ e)

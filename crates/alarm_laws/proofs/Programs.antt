@@ -1,6 +1,6 @@
 -- What a whole run does is said by the shape of main: by recursion on the turns.
-use Rattle.std.proofs.Common.{◌≡◌, ℕ, zero, suc, Bool, true, false, nat_eq, List, [], ◌++◌, flat_map, Some, None, slice_get, sym, subst, append-nil}
-use Rattle.std.proofs.lemmas.List.Elements.{Contains-append_left, All-contains}
+use Rattle.std.proofs.Common.{◌≡◌, ℕ, zero, suc, Bool, true, false, nat_eq, List, [], ◌++◌, Some, None, slice_get, sym, subst, append-nil}
+use Rattle.std.proofs.lemmas.List.Elements.{All-contains}
 use Rattle.dm_base.specs.declared.event.Event.{Event}
 use Rattle.dm_base.specs.declared.outcome.Outcome.TheVariants.{Undefined}
 use Rattle.flow_graph_laws.specs.SysResult.{SysResult}
@@ -16,12 +16,13 @@ use Rattle.c_shapes.specs.Shape.{Shape, Loop, Shapes, Leave, goes_on, breaks, co
 use Rattle.c_shapes.specs.Words.{Whole, Front}
 use Rattle.c_shapes.specs.Words as F
 use Rattle.c_shapes.specs.Languages as languages
-use Rattle.c_shapes.specs.Mentions.{mentions_of_maybe, mentions_of_stmt, mentions_of_function, mentions_of_static}
+use Rattle.c_shapes.specs.Mentions.{mentions_of_maybe, mentions_of_stmt}
 use Rattle.c_shapes.specs.ShapeOf.{shape_of_maybe, shape_of_stmt, shape_of_function, shapes_of}
 use Rattle.c_meaning.specs.Meaning.{Marks, Frame, Loop as LoopOf, condition, perhaps, exec, without}
 use Rattle.c_meaning.specs.Results.{State, with_memory, Result, Go, Stop, after, then_do, Exit, on, broken, continued, returned}
 use Rattle.c_meaning.specs.Runs.{entered, parameters, without_value, result_of, run_body, enter, loop, world, beginning, ending, run_with}
-use Rattle.alarm_laws.proofs.Lists.{got_in, in_flat_map}
+use Rattle.c_meaning_laws.proofs.Standing.{body_stands}
+use Rattle.alarm_laws.proofs.Lists.{got_in}
 use Rattle.alarm_laws.proofs.Says.{told, left_by, Straight, spend_tells, Says}
 use Rattle.alarm_laws.proofs.Loops.{round_says}
 use Rattle.alarm_laws.proofs.Places.{shape_at}
@@ -29,11 +30,6 @@ use Rattle.alarm_laws.proofs.Guards.{Mentioned, with_turns, frame_of, IsGuarded,
 use Rattle.alarm_laws.proofs.Calls.{Done, Entered}
 use Rattle.alarm_laws.proofs.Expressions.{IsFine}
 use Rattle.alarm_laws.proofs.Statements.{condition_says, condition_kept, step_says, step_kept, stmt_says}
-
--- what a function's body mentions is mentioned in the program
-body_mentioned : (p : Program) (f : ℕ) (g : Function) → slice_get p.functions f ≡ Some g → Mentioned p (mentions_of_stmt g.body)
-body_mentioned p f g is x h =
-    Contains-append_left (flat_map mentions_of_function p.functions) (flat_map mentions_of_static p.statics) x (in_flat_map mentions_of_function p.functions g x (got_in p.functions f g is) h)
 
 module _ (p : Program) (n : ℕ) (right : IsProgram p n) (marks : Marks) (m : F.Marks) (keep : Event → List Event) (ties : IsTied p marks m keep) where
   abbrev env : Shapes
@@ -79,7 +75,7 @@ module _ (p : Program) (n : ℕ) (right : IsProgram p n) (marks : Marks) (m : F.
 
         body : (j : ℕ) → Says env m keep {A = Exit} left_by (shape_of_function p g) (exec p (world p marks k) marks (frame_of g st) g.body (entered vs (with_turns st j)))
         body j =
-            stmt_says p n right marks m keep ties Good Passed guard k goes (frame_of g st) sound.gives false false g.body sound.typed (body_mentioned p f g is) (entered vs (with_turns st j)) (guard.entering f g r ts vs st j is type passed)
+            stmt_says p n right marks m keep ties Good Passed guard k goes (frame_of g st) sound.gives false false g.body sound.typed (body_stands p f g is) (entered vs (with_turns st j)) (guard.entering f g r ts vs st j is type passed)
 
     goes_round : (k : ℕ) → Fine k → (fr : Frame) (r : CType) (l : LoopOf) (st : State) → IsTest p fr.types l.test → IsStmt p fr.types r true true l.body → IsStep p fr.types l.step → Mentioned p (mentions_of_maybe l.test) → Mentioned p (mentions_of_stmt l.body) → Mentioned p (mentions_of_maybe l.step) → Good fr st → Says env m keep {A = Exit} left_by (Loop (shape_of_maybe p l.test) (shape_of_stmt p l.body) (shape_of_maybe p l.step)) (loop p (world p marks k) marks fr l st)
     goes_round k goes fr r l st ht hb hs mt mb ms g =

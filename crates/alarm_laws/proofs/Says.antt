@@ -141,9 +141,7 @@ module _ (env : Shapes) (m : Marks) (keep : Event → List Event) where
   -- a part alone
   alone : {S : Shape} (x : Leave) {t u : List Event} → Whole env m S x t u → Falls env m (Part S End) x t u
   alone goes_on h = F.falls_on h F.ended
-  alone breaks h = F.falls_away tt h
-  alone continues h = F.falls_away tt h
-  alone returns h = F.falls_away tt h
+  alone x h = F.falls_away tt h
 
   pub part_alone : {A : Type 0} (by : A → Leave) (S : Shape) (r : Result A) → Says {A = A} by S r → SaysAll {A = A} by (Part S End) r
   part_alone by S r h =

@@ -1,28 +1,26 @@
 -- A function that comes to no system call shows nothing: its shape has no call, and only the empty word.
-use Rattle.std.proofs.Common.{◌≡◌, ℕ, suc, ◌+◌, ◌-◌, ◌<◌, ◌≤◌, Bool, true, false, ◌&&◌, ◌||◌, nat_lt, if◌then◌else◌, List, ◌∷◌, ◌++◌, Contains, Some, slice_get, refl, ap, sym, ◌∙◌, subst, arith}
+use Rattle.std.proofs.Common.{◌≡◌, ℕ, suc, ◌+◌, ◌-◌, ◌<◌, ◌≤◌, Bool, true, false, ◌&&◌, ◌||◌, nat_lt, if◌then◌else◌, List, ◌∷◌, ◌++◌, Some, slice_get, refl, ap, sym, ◌∙◌, subst, arith}
 use Rattle.std.proofs.lemmas.Bool.{false≢true}
 use Rattle.std.proofs.lemmas.Option.{slice_get_within}
-use Rattle.std.proofs.lemmas.List.Elements.{Contains-append_left, Contains-append_right}
 use Rattle.dm_base.specs.declared.event.Event.{Event}
-use Rattle.c_tree.specs.Tree.{Expr, constant, function_name, string_place, variable, dereference, load, address_of, decay, discard, field, unary_operation, conversion, arithmetic, comparison, pointer_add, pointer_diff, and, or, assign, update, conditional, comma, call, call_through, type_of}
+use Rattle.c_tree.specs.Tree.{Expr, dereference, load, address_of, decay, discard, field, unary_operation, conversion, arithmetic, comparison, pointer_add, pointer_diff, and, or, assign, update, conditional, comma, call, call_through, type_of}
 use Rattle.c_tree.specs.Tree.{Exprs, no_exprs, more_exprs, Maybe, absent, there, Inits, no_inits, more_inits}
-use Rattle.c_tree.specs.Tree.{Stmt, block, empty, evaluate, declare, if_else, while_loop, do_loop, for_loop, switch_on, break_off, continue_on, return_void, return_value, Stmts, no_stmts, more_stmts, Groups, no_groups, more_groups}
+use Rattle.c_tree.specs.Tree.{Stmt, block, evaluate, declare, if_else, while_loop, do_loop, for_loop, switch_on, return_value, Stmts, no_stmts, more_stmts, Groups, no_groups, more_groups}
 use Rattle.c_tree.specs.Tree.{Function, Program}
 use Rattle.c_tree.specs.Functions.{defined}
 use Rattle.c_tree.specs.Constants.{pattern_of}
-use Rattle.c_shapes.specs.Shape.{Shape, Skip, Sys, Exit, Call, Seq, Alt, Loop, Do, Cases, Break, Continue, Return, Parts, End, Part, Shapes, Leave}
+use Rattle.c_shapes.specs.Shape.{Shape, Skip, Sys, Exit, Call, Seq, Alt, Loop, Do, Cases, Return, Parts, End, Part, Shapes, Leave}
 use Rattle.c_shapes.specs.Words.{Marks, Whole, Rounds, Again, Falls, Picks, Front, FrontFalls, FrontPicks}
 use Rattle.c_shapes.specs.Words as F
 use Rattle.c_shapes.specs.Mentions.{Callee, Direct, Through, Mention, Named, Calls, mentions, mentions_of_all, mentions_of_maybe, mentions_of_inits, mentions_of_stmt, mentions_of_stmts, mentions_of_groups, mentions_of_function}
 use Rattle.c_shapes.specs.CallGraph.{is_in, has_one, functions_of, callees, enters, said_by, one_round, reaching, reaches, is_marked}
 use Rattle.c_shapes.specs.ShapeOf.{before_parts, without_skips, in_turn, seq, seq_two, alt, system_call, marked_call, direct_call, shape, shapes_before, shape_of_maybe, shapes_of_inits, shape_of_stmt, shapes_of_stmts, shapes_of_groups, shape_of_function, has_default}
 use Rattle.c_shapes.proofs.Rounds.{enough}
-use Rattle.alarm_laws.proofs.Lists.{is_later, or_false_left, not_below, below, if_has, in_filter, in_range, is_in_of, none_passes}
+use Rattle.alarm_laws.proofs.Lists.{Each, each_left, each_right, each_first, each_rest, or_false_left, not_below, below, if_has, in_filter, in_range, is_in_of, none_passes}
 
 -- nothing is called
 abbrev mutual
   pub IsSilent : Shape → Type 0
-  IsSilent Skip = Unit {0}
   IsSilent (Sys x q) = ⊥
   IsSilent (Exit q) = ⊥
   IsSilent (Call s) = ⊥
@@ -31,9 +29,7 @@ abbrev mutual
   IsSilent (Loop C B P) = IsSilent C × IsSilent B × IsSilent P
   IsSilent (Do B C) = IsSilent B × IsSilent C
   IsSilent (Cases ps d) = AreSilent ps
-  IsSilent Break = Unit {0}
-  IsSilent Continue = Unit {0}
-  IsSilent Return = Unit {0}
+  IsSilent a = Unit {0}
 
   pub AreSilent : Parts → Type 0
   AreSilent End = Unit {0}
@@ -42,7 +38,6 @@ abbrev mutual
 module _ (env : Shapes) (m : Marks) where
   mutual
     pub whole_quiet : {S : Shape} {x : Leave} {t u : List Event} → Whole env m S x t u → IsSilent S → t ≡ u
-    whole_quiet F.skip s = refl
     whole_quiet (F.sys h) s = absurd s
     whole_quiet (F.call k a h d b) s = absurd s
     whole_quiet (F.left h) s = whole_quiet h s.0
@@ -58,10 +53,7 @@ module _ (env : Shapes) (m : Marks) where
     whole_quiet (F.cases_break h) s = picks_quiet h s
     whole_quiet (F.cases_continue h) s = picks_quiet h s
     whole_quiet (F.cases_return h) s = picks_quiet h s
-    whole_quiet F.cases_none s = refl
-    whole_quiet F.break_out s = refl
-    whole_quiet F.continue_on s = refl
-    whole_quiet F.return_now s = refl
+    whole_quiet a s = refl
 
     rounds_quiet : {C B P : Shape} {t u : List Event} → Rounds env m C B P t u → IsSilent C → IsSilent B → IsSilent P → t ≡ u
     rounds_quiet F.none c b p = refl
@@ -84,8 +76,6 @@ module _ (env : Shapes) (m : Marks) where
     pub front_quiet : {S : Shape} {t u : List Event} → Front env m S t u → IsSilent S → t ≡ u
     front_quiet F.nothing s = refl
     front_quiet (F.all h) s = whole_quiet h s
-    front_quiet (F.exits h) s = absurd s
-    front_quiet (F.inside k a h) s = absurd s
     front_quiet (F.in_left h) s = front_quiet h s.0
     front_quiet (F.in_right h) s = front_quiet h s.1
     front_quiet (F.in_test r h) s = rounds_quiet r s.0 s.1 s.2 ∙ front_quiet h s.0
@@ -95,6 +85,7 @@ module _ (env : Shapes) (m : Marks) where
     front_quiet (F.in_until r n h k) s = again_quiet r s.0 s.1 ∙ (whole_quiet h s.0 ∙ front_quiet k s.1)
     front_quiet (F.in_seq h) s = front_falls_quiet h s
     front_quiet (F.in_cases h) s = front_picks_quiet h s
+    front_quiet a s = absurd s
 
     front_falls_quiet : {ps : Parts} {t u : List Event} → FrontFalls env m ps t u → AreSilent ps → t ≡ u
     front_falls_quiet (F.in_part h) s = front_quiet h s.0
@@ -134,13 +125,13 @@ module _ (p : Program) where
   IsHushed (Calls s callee) = has_one (λ f. reaches p f) (callees p callee) ≡ false
 
   abbrev Hushed : List Mention → Type 0
-  Hushed ms = (x : Mention) → Contains ms x → IsHushed x
+  Hushed ms = Each IsHushed ms
 
   hushed_left : (xs ys : List Mention) → Hushed (xs ++ ys) → Hushed xs
-  hushed_left xs ys h x k = h x (Contains-append_left xs ys x k)
+  hushed_left = each_left IsHushed
 
   hushed_right : (xs ys : List Mention) → Hushed (xs ++ ys) → Hushed ys
-  hushed_right xs ys h x k = h x (Contains-append_right xs ys x k)
+  hushed_right = each_right IsHushed
 
   -- a system call comes to itself
   pub system_reaches : (f : ℕ) → defined p ≤ f → f - defined p < 24 → reaches p f ≡ true
@@ -153,27 +144,15 @@ module _ (p : Program) where
 
   direct_unmarked : (b c : Bool) → (c || false) ≡ false → (b && c) ≡ false
   direct_unmarked true true h = h
-  direct_unmarked true false h = refl
-  direct_unmarked false c h = refl
+  direct_unmarked b c h = refl
 
   silent_direct : (s f : ℕ) (es : Exprs) → IsHushed (Calls s (Direct f)) → IsSilent (direct_call p s f es)
   silent_direct s f es h =
       let x = f - defined p in
       if_has IsSilent (nat_lt f (defined p)) (marked_call p s (Direct f)) (if nat_lt x 24 then system_call x (pattern_of x es) else Skip) (λ k. silent_marked s (Direct f) (direct_unmarked (nat_lt f (defined p)) (reaches p f) h)) (λ k. if_has IsSilent (nat_lt x 24) (system_call x (pattern_of x es)) Skip (λ l. absurd (false≢true (sym (or_false_left (reaches p f) false h) ∙ system_reaches f (not_below f (defined p) k) (below (f - defined p) 24 l)))) (λ l. tt))
 
-  -- the first of the mentions, and the others
-  hushed_first : (x : Mention) (xs : List Mention) → Hushed (x ∷ xs) → IsHushed x
-  hushed_first x xs h = h x (0, omega arith, refl)
-
-  hushed_rest : (x : Mention) (xs : List Mention) → Hushed (x ∷ xs) → Hushed xs
-  hushed_rest x xs h y k = h y (is_later x xs y k)
-
   mutual
     silent_expr : (e : Expr) → Hushed (mentions e) → IsSilent (shape p e)
-    silent_expr (constant t v) h = tt
-    silent_expr (function_name t f) h = tt
-    silent_expr (string_place t n) h = tt
-    silent_expr (variable t is_static n) h = tt
     silent_expr (dereference t a) h = silent_expr a h
     silent_expr (load t a) h = silent_expr a h
     silent_expr (address_of t a) h = silent_expr a h
@@ -195,11 +174,12 @@ module _ (p : Program) where
         two_silent (shape p c) (alt (shape p a) (shape p b)) (silent_expr c (hushed_left (mentions c) (mentions a ++ mentions b) h)) (alt_silent (shape p a) (shape p b) (silent_expr a (hushed_left (mentions a) (mentions b) k)) (silent_expr b (hushed_right (mentions a) (mentions b) k)))
     silent_expr (comma t es) h = seq_silent (shapes_before p es End) (silent_exprs es End h tt)
     silent_expr (call t s f es) h =
-        seq_silent (shapes_before p es (Part (direct_call p s f es) End)) (silent_exprs es (Part (direct_call p s f es) End) (hushed_rest (Calls s (Direct f)) (mentions_of_all es) h) (silent_direct s f es (hushed_first (Calls s (Direct f)) (mentions_of_all es) h), tt))
+        seq_silent (shapes_before p es (Part (direct_call p s f es) End)) (silent_exprs es (Part (direct_call p s f es) End) (each_rest IsHushed (Calls s (Direct f)) (mentions_of_all es) h) (silent_direct s f es (each_first IsHushed (Calls s (Direct f)) (mentions_of_all es) h), tt))
     silent_expr (call_through t s a es) h =
         let c = Calls s (Through (type_of a)) in
         let k = hushed_right (mentions a) (c ∷ mentions_of_all es) h in
-        seq_silent (Part (shape p a) (shapes_before p es (Part (marked_call p s (Through (type_of a))) End))) (silent_expr a (hushed_left (mentions a) (c ∷ mentions_of_all es) h), silent_exprs es (Part (marked_call p s (Through (type_of a))) End) (hushed_rest c (mentions_of_all es) k) (silent_marked s (Through (type_of a)) (hushed_first c (mentions_of_all es) k), tt))
+        seq_silent (Part (shape p a) (shapes_before p es (Part (marked_call p s (Through (type_of a))) End))) (silent_expr a (hushed_left (mentions a) (c ∷ mentions_of_all es) h), silent_exprs es (Part (marked_call p s (Through (type_of a))) End) (each_rest IsHushed c (mentions_of_all es) k) (silent_marked s (Through (type_of a)) (each_first IsHushed c (mentions_of_all es) k), tt))
+    silent_expr e h = tt
 
     silent_exprs : (es : Exprs) (ps : Parts) → Hushed (mentions_of_all es) → AreSilent ps → AreSilent (shapes_before p es ps)
     silent_exprs no_exprs ps h k = k
@@ -216,7 +196,6 @@ module _ (p : Program) where
   mutual
     silent_stmt : (s : Stmt) → Hushed (mentions_of_stmt s) → IsSilent (shape_of_stmt p s)
     silent_stmt (block ss) h = seq_silent (shapes_of_stmts p ss) (silent_stmts ss h)
-    silent_stmt empty h = tt
     silent_stmt (evaluate e) h = silent_expr e h
     silent_stmt (declare x is) h = seq_silent (shapes_of_inits p is) (silent_inits is h)
     silent_stmt (if_else e s u) h =
@@ -229,10 +208,8 @@ module _ (p : Program) where
         let l = hushed_right (mentions_of_maybe test) (mentions_of_maybe step ++ mentions_of_stmt s) k in
         two_silent (seq (shapes_of_stmts p first)) (Loop (shape_of_maybe p test) (shape_of_stmt p s) (shape_of_maybe p step)) (seq_silent (shapes_of_stmts p first) (silent_stmts first (hushed_left (mentions_of_stmts first) (mentions_of_maybe test ++ (mentions_of_maybe step ++ mentions_of_stmt s)) h))) (silent_maybe test (hushed_left (mentions_of_maybe test) (mentions_of_maybe step ++ mentions_of_stmt s) k), silent_stmt s (hushed_right (mentions_of_maybe step) (mentions_of_stmt s) l), silent_maybe step (hushed_left (mentions_of_maybe step) (mentions_of_stmt s) l))
     silent_stmt (switch_on e gs) h = two_silent (shape p e) (Cases (shapes_of_groups p gs) (has_default gs)) (silent_expr e (hushed_left (mentions e) (mentions_of_groups gs) h)) (silent_groups gs (hushed_right (mentions e) (mentions_of_groups gs) h))
-    silent_stmt break_off h = tt
-    silent_stmt continue_on h = tt
-    silent_stmt return_void h = tt
     silent_stmt (return_value e) h = two_silent (shape p e) Return (silent_expr e h) tt
+    silent_stmt s h = tt
 
     silent_stmts : (ss : Stmts) → Hushed (mentions_of_stmts ss) → AreSilent (shapes_of_stmts p ss)
     silent_stmts no_stmts h = tt

@@ -123,10 +123,8 @@ module _ (p : Program) (n : ℕ) (right : IsProgram p n) (marks : Marks) (m : F.
       then_left keep {A = Exit} {B = Exit} left_by left_by (λ x t u. Whole env m (Cases (shapes_of_groups p gs) d) (out_of x) t u) (Whole env m (Cases (shapes_of_groups p gs) d)) (Front env m (Cases (shapes_of_groups p gs) d)) r (λ x st. out_of_switch x) (λ x st. st) (λ x st t u z. subst (λ y. Whole env m (Cases (shapes_of_groups p gs) d) y t u) (same x) z) (change_tells keep {A = Exit} left_by (Picks env m (shapes_of_groups p gs)) (λ x t u. Whole env m (Cases (shapes_of_groups p gs) d) (out_of x) t u) (FrontPicks env m (shapes_of_groups p gs)) (Front env m (Cases (shapes_of_groups p gs) d)) r (λ x t u z. cases_whole env m x z) (λ t u z. F.in_cases z) h)
     where
       same : (x : Exit) → out_of (left_by x) ≡ left_by (out_of_switch x)
-      same on = refl
-      same broken = refl
-      same continued = refl
       same (returned v) = refl
+      same x = refl
 
   none_left : (gs : Groups) (j : ℕ) (st : State) (d : Bool) → d ≡ false → count_groups gs ≤ j → Leaving (Cases (shapes_of_groups p gs) d) (then_do (exec_from p (world p marks k) marks fr j gs st) (λ x st. Go (out_of_switch x) st []))
   none_left gs j st d e le =

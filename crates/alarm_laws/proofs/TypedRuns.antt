@@ -1,51 +1,33 @@
 -- Typed states are kept by runs, and a function value of the type of the pointer that is called is a candidate.
-use Rattle.std.proofs.Common.{◌≡◌, ℕ, Bool, true, false, List, [], All, Contains, Option, Some, slice_get, sym, ap, ◌∙◌, subst}
+use Rattle.std.proofs.Common.{◌≡◌, ℕ, Bool, true, false, List, [], All, Contains, Some, sym, ap, ◌∙◌, subst}
 use Rattle.std.proofs.lemmas.List.Elements.{All-nil, All-cons}
 use Rattle.dm_base.specs.declared.event.Event.TheVariants.{Pre, Post}
 use Rattle.flow_graph_laws.specs.Table.{IsRecorded}
 use Rattle.c_tree.specs.declared.value.Value.{Value}
-use Rattle.c_tree.specs.declared.value.Value.TheVariants.{Indeterminate, Int, Uint, Char, Uchar, Null, Func, At}
-use Rattle.c_tree.specs.Tree.{CType, void, integer, pointer, array, struct, function, CTypes, list_of, no_inits, declare, Program, type_of}
+use Rattle.c_tree.specs.declared.value.Value.TheVariants.{Indeterminate, Func}
+use Rattle.c_tree.specs.Tree.{CType, void, pointer, function, CTypes, list_of, Program, type_of}
 use Rattle.c_tree.specs.Kinds.{Objects, static_objects}
-use Rattle.c_tree.specs.Layout.{cells}
-use Rattle.c_tree.specs.Operands.{IsScalar}
 use Rattle.c_tree.specs.Program.{IsProgram}
-use Rattle.c_meaning.specs.Answers.{Answer, gives, undefined}
-use Rattle.c_meaning.specs.Memory.{declared}
-use Rattle.c_meaning.specs.Memory.{Objects as Memory}
+use Rattle.c_meaning.specs.Answers.{gives}
 use Rattle.c_shapes.specs.Mentions.{Calls, Through, mentions_of_program}
 use Rattle.c_shapes.specs.CallGraph.{callees, called_where, marked}
 use Rattle.c_meaning.specs.Meaning.{Marks, Frame, static_name, name_in, fresh}
 use Rattle.c_meaning.specs.Pointers.{callee, place, store_place}
-use Rattle.c_meaning.specs.Results.{State, with_memory, Result, Go, Stop, then_do, remembered, Exit, on}
-use Rattle.c_meaning.specs.Runs.{no_marks}
-use Rattle.c_meaning_laws.specs.StoreTyping.{HasKind, IsPlaced, IsTypedMemory, IsTypedState, Grows, TellsOfStatics, IsTypedFrame}
+use Rattle.c_meaning.specs.Results.{State, Result, Go, Stop, remembered, Exit}
+use Rattle.c_meaning.specs.Runs.{no_marks, world}
+use Rattle.c_meaning_laws.specs.StoreTyping.{HasKind, IsPlaced, IsTypedState, Grows, TellsOfStatics, IsTypedFrame}
 use Rattle.c_meaning_laws.specs.TypedResults.{EndsTyped, IsExit, Gives as GivesTyped, GiveAll, AreRecorded}
 use Rattle.c_meaning_laws.specs.Laws.{PartsAreTyped}
 use Rattle.c_meaning_laws.proofs.Places.{flat_scalar}
-use Rattle.c_meaning_laws.proofs.Steps.{Right, store_right}
-use Rattle.c_meaning_laws.proofs.Keeps.{stands_on, arguments_kind}
+use Rattle.c_meaning_laws.proofs.Keeps.{scalar_kind, stands_on, arguments_kind, cell_ends, fresh_ends}
 use Rattle.c_meaning_laws.proofs.Candidates.{callees_are_candidates}
-use Rattle.c_meaning_laws.proofs.Standing.{stands_empty}
-use Rattle.c_meaning_laws.proofs.Worlds.{types_are_kept, runs_begin_typed}
+use Rattle.c_meaning_laws.proofs.Worlds.{opens, types_are_kept, runs_begin_typed}
 use Rattle.alarm_laws.specs.MarkedRuns.{null_calls_of}
 use Rattle.c_shapes.proofs.SitesSaid.{callee_found}
 use Rattle.alarm_laws.proofs.Says.{Gives}
 use Rattle.alarm_laws.proofs.Guards.{with_turns, IsGuarded}
 use Rattle.alarm_laws.proofs.Places.{type_of_function}
 use Rattle.alarm_laws.proofs.Marking.{marks_if}
-use Rattle.alarm_laws.proofs.Entering.{entered_typed, cell_pointer}
-
-abbrev number_of : Answer ℕ → ℕ
-number_of (gives f) = f
-number_of (undefined kind) = 0
-
-abbrev IsUndefined : Answer ℕ → Type 0
-IsUndefined (gives f) = ⊥
-IsUndefined (undefined kind) = Unit {0}
-
-not_given : {kind f : ℕ} → undefined kind ≡ gives f → ⊥
-not_given e = subst IsUndefined e tt
 
 module _ (p : Program) (n : ℕ) (right : IsProgram p n) (marks : Marks) (recorded : AreRecorded marks) where
   -- the state is typed, and the variables of the frame are told of
@@ -70,33 +52,13 @@ module _ (p : Program) (n : ℕ) (right : IsProgram p n) (marks : Marks) (record
   -- the function that is called through a pointer of this type
   candidate : (s : ℕ) (t : CType) (o : Objects) (v : Value) → Contains (mentions_of_program p) (Calls s (Through t)) → HasKind p o t v → (f : ℕ) → callee v ≡ gives f → Contains (callees p (Through t)) f
   candidate s t o (Func g) k h f e =
-      subst (λ f. Contains (callees p (Through t)) f) (ap number_of e) (subst (λ fs. Contains fs g) (ap (called_where p) (callee_found p n right s (Through t) k)) ((callees_are_candidates p n right).1 s g t o k h))
+      let same : g ≡ f = cc in
+      subst (λ f. Contains (callees p (Through t)) f) same (subst (λ fs. Contains fs g) (ap (called_where p) (callee_found p n right s (Through t) k)) ((callees_are_candidates p n right).1 s g t o k h))
   candidate s t o Indeterminate k h f e = absurd h
-  candidate s t o (Int z) k h f e = absurd (not_given e)
-  candidate s t o (Uint z) k h f e = absurd (not_given e)
-  candidate s t o (Char z) k h f e = absurd (not_given e)
-  candidate s t o (Uchar z) k h f e = absurd (not_given e)
-  candidate s t o Null k h f e = absurd (not_given e)
-  candidate s t o (At q) k h f e = absurd (not_given e)
+  candidate s t o v k h f e = absurd (cc)
 
   pointer_kind : (t u : CType) (o : Objects) (v : Value) → t ≡ pointer u → GivesTyped p true t o v → HasKind p o t v
   pointer_kind t u o v e = subst (λ t. GivesTyped p true t o v → HasKind p o t v) (sym e) (λ h. h)
-
-  scalar_kind : (t : CType) (o : Objects) (v : Value) → IsScalar t → GivesTyped p true t o v → HasKind p o t v
-  scalar_kind void o v b h = absurd b
-  scalar_kind (integer i) o v b h = h
-  scalar_kind (pointer t) o v b h = h
-  scalar_kind (array t i) o v b h = absurd b
-  scalar_kind (struct s) o v b h = absurd b
-  scalar_kind (function r ts) o v b h = absurd b
-
-  stored_good : (fr : Frame) (x : Answer Memory) (v : Value) (st : State) (u : Objects) → IsTypedFrame p u fr → IsTypedState p u st → Right {A = Memory} (IsTypedMemory p u) x → Gives {A = Value} (λ y z. IsGood fr z) (remembered x v st)
-  stored_good fr (gives m) v st u f k h = (u, f, record { memory = h; few = k.few; later = k.later })
-  stored_good fr (undefined kind) v st u f k h = tt
-
-  fresh_good : (fr : Frame) (x : ℕ) (t : CType) (o : Objects) (st : State) → (c : Option CType) → c ≡ Some t → IsTypedFrame p o fr → EndsTyped p {A = Exit} (IsExit p void false false) o st.entries (then_do (fresh p.structs fr x c st) (λ y st. Go on st [])) → IsGood fr (with_memory st (declared st.memory (name_in fr false x) (cells p.structs t)))
-  fresh_good fr x t o st c e f =
-      subst (λ c. EndsTyped p {A = Exit} (IsExit p void false false) o st.entries (then_do (fresh p.structs fr x c st) (λ y st. Go on st [])) → IsGood fr (with_memory st (declared st.memory (name_in fr false x) (cells p.structs t)))) (sym e) (λ h. (h.0, stands_on p n right marks recorded o h.0 fr h.1 f, h.3))
 
   pub typed_guard : IsGuarded p marks IsGood ArePassed
   typed_guard = record {
@@ -104,12 +66,13 @@ module _ (p : Program) (n : ℕ) (right : IsProgram p n) (marks : Marks) (record
     place_kept = λ k fr wanted e st h l g. good_after {A = Value} (λ o v. IsPlaced p o (type_of e) v) g.0 _ fr _ g.1 ((parts k).places fr wanted e g.0 st g.1 h l g.2);
     designator = λ k fr site a r ts st e h l c g. given_after {A = Value} (GivesTyped p true (type_of a)) (λ v u. (f : ℕ) → callee v ≡ gives f → Contains (callees p (Through (type_of a))) f) g.0 _ _ (λ u v st w ok s. candidate site (type_of a) u v c (pointer_kind (type_of a) (function r ts) u v e ok)) ((parts k).values fr true a g.0 st g.1 h l g.2);
     arguments_kept = λ k fr ts es st h l g. given_after {A = List Value} (GiveAll p (list_of ts)) (λ vs u. ArePassed ts vs u) g.0 _ _ (λ u vs st w ok s. (u, (λ x t e. w (static_name x) _ ((g.1).statics x t e)), ok, s)) ((parts k).arguments fr ts es g.0 st g.1 h l g.2);
-    entering = λ f g r ts vs st k is type h. entered_typed p n right f g r ts vs h.0 (with_turns st k) is type h.1 (arguments_kind p n right marks recorded r r ts f h.0 vs (type_of_function p f g is ∙ ap (λ t. Some t) type) h.2) h.3;
-    fresh_kept = λ fr x t st e g. fresh_good fr x t g.0 st (slice_get fr.types x) e g.1 ((parts 0).statements fr void false false (declare x no_inits) g.0 st g.1 (t, e, tt) (stands_empty p) g.2);
+    entering = λ f g r ts vs st k is type h.
+        let b = opens p n right f g r ts vs h.0 (with_turns st k) is type h.1 (arguments_kind p n right marks recorded r r ts f h.0 vs (type_of_function p f g is ∙ ap (λ t. Some t) type) h.2) h.3 in
+        (b.told, b.frame, b.state);
+    fresh_kept = λ fr x t st e g. subst (λ c. Gives {A = Exit} (λ y u. IsGood fr u) (fresh p.structs fr x c st)) e (good_after {A = Exit} (IsExit p void false false) g.0 _ fr _ g.1 (fresh_ends p n right marks recorded (world p marks 0) (parts 0).turning fr void t x g.0 st g.1 e g.2));
     stored = λ k fr x cell t a st e c h l g. given_after {A = Value} (GivesTyped p true (type_of a)) (λ v u. Gives {A = Value} (λ y z. IsGood fr z) (remembered (store_place u.memory (place (name_in fr false x) cell 1) v) v u)) g.0 _ _ (λ u v st w ok s.
-        let b = flat_scalar p.structs t cell (type_of a) c in
         let f = stands_on p n right marks recorded g.0 u fr w g.1 in
-        stored_good fr _ v st u f s (store_right p n right u (type_of a) _ v st.memory b (cell_pointer p n right u fr x cell t (type_of a) f e c b) (scalar_kind (type_of a) u v b ok) s.memory)) ((parts k).values fr true a g.0 st g.1 h l g.2);
+        good_after {A = Value} (λ o y. HasKind p o (type_of a) y) u _ fr _ f (cell_ends p n right marks recorded (world p marks k) (parts k).turning fr u x cell t (type_of a) v st f e c (scalar_kind p n right marks recorded (type_of a) u v (flat_scalar p.structs t cell (type_of a) c) ok) s)) ((parts k).values fr true a g.0 st g.1 h l g.2);
     statement = λ k fr r breaks continues s st h l g. good_after {A = Exit} (IsExit p r breaks continues) g.0 _ fr _ g.1 ((parts k).statements fr r breaks continues s g.0 st g.1 h l g.2);
     turn = λ fr st k g. (g.0, g.1, g.2);
     begins = λ records turns. let b = runs_begin_typed p n right records turns in (static_objects p, b.statics, tt, b.state);

@@ -15,10 +15,9 @@ pub data Stands (env : Shapes) (m : Marks) : Parts → List Event → List Event
 
 -- how a switch is left, by how its statements are
 abbrev pub out_of : Leave → Leave
-out_of goes_on = goes_on
-out_of breaks = goes_on
 out_of continues = continues
 out_of returns = returns
+out_of a = goes_on
 
 module _ (env : Shapes) (m : Marks) where
   pub whole_skip : {x : Leave} {t u : List Event} → Whole env m Skip x t u → (x ≡ goes_on) × (t ≡ u)
