@@ -5,6 +5,7 @@ use Rattle.std.proofs.lemmas.Bool.{false≢true}
 use Rattle.std.proofs.lemmas.List.Elements.{Contains-append_left, Contains-append_right}
 use Rattle.std.proofs.lemmas.Option.{slice_get_within, get_or_from_slice_get}
 use Rattle.c_shapes.specs.CallGraph.{is_in, has_one}
+use Rattle.c_shapes.proofs.Members.{or_left, or_right, or_cases}
 pub use Rattle.c_shapes.proofs.Members.{and_left, and_right, or_false_left, or_false_right, below, is_below, not_below, isnt_below, same_number, other_number, is_first, is_later, cases, none_in, from_filter, in_filter, in_map, in_range, from_range}
 
 -- what a choice has
@@ -15,27 +16,16 @@ if_has P false x y h k = k refl
 -- membership as a test
 pub is_in_of : (f : ℕ) (fs : List ℕ) → Contains fs f → is_in f fs ≡ true
 is_in_of f [] h = absurd (none_in f h)
-is_in_of f (g ∷ gs) h = elim (cases g gs f h) as (λ k. (nat_eq f g || is_in f gs) ≡ true) [
-  | inl is ↦ ap (λ b. b || is_in f gs) (ap (nat_eq f) is ∙ nat_eq_equiv.refl f)
-  | inr k ↦ by (nat_eq f g) (is_in_of f gs k)
-]
-  where
-    by : (b : Bool) → is_in f gs ≡ true → (b || is_in f gs) ≡ true
-    by true e = refl
-    by false e = e
+is_in_of f (g ∷ gs) h = elim (cases g gs f h) as (λ k. (nat_eq f g || is_in f gs) ≡ true) [ inl is ↦ or_left (nat_eq f g) (is_in f gs) (ap (nat_eq f) is ∙ nat_eq_equiv.refl f) | inr k ↦ or_right (nat_eq f g) (is_in f gs) (is_in_of f gs k) ]
 
 -- one passes, or none does
 pub none_passes : {X : Type 0} (test : X → Bool) (xs : List X) → has_one test xs ≡ false → (x : X) → Contains xs x → test x ≡ false
 none_passes test [] h x k = absurd (none_in x k)
 none_passes test (y ∷ xs) h x k = elim (cases y xs x k) as (λ q. test x ≡ false) [ inl is ↦ ap test (sym is) ∙ or_false_left (test y) (has_one test xs) h | inr q ↦ none_passes test xs (or_false_right (test y) (has_one test xs) h) x q ]
 
-passes_first : {X : Type 0} (test : X → Bool) (y : X) (xs : List X) (b : Bool) → test y ≡ b → (b || has_one test xs) ≡ true → (has_one test xs ≡ true → (x : X) × Contains xs x × (test x ≡ true)) → (x : X) × Contains (y ∷ xs) x × (test x ≡ true)
-passes_first test y xs true e k rest = (y, is_first y xs, e)
-passes_first test y xs false e k rest = let r = rest k in (r.0, is_later y xs r.0 r.1, r.2)
-
 pub one_passes : {X : Type 0} (test : X → Bool) (xs : List X) → has_one test xs ≡ true → (x : X) × Contains xs x × (test x ≡ true)
 one_passes test [] h = absurd (false≢true h)
-one_passes test (y ∷ xs) h = passes_first test y xs (test y) refl h (one_passes test xs)
+one_passes {X = X} test (y ∷ xs) h = elim (or_cases (test y) (has_one test xs) h) as (λ k. (x : X) × Contains (y ∷ xs) x × (test x ≡ true)) [ inl e ↦ (y, is_first y xs, e) | inr e ↦ (let r = one_passes test xs e in (r.0, is_later y xs r.0 r.1, r.2)) ]
 
 -- what is at a place is a member
 pub same_some : {X : Type 0} (y x : X) → Some y ≡ Some x → y ≡ x

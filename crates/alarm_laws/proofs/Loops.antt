@@ -46,14 +46,12 @@ module _ (env : Shapes) (m : Marks) (keep : Event → List Event) where
       after_step (Stop o v) again h g k = λ u s r y c n b. F.in_step F.none c n b (h u)
 
       after_body : (q : Result Exit) (step again : State → Result Exit) → Says env m keep {A = Exit} left_by B q → Gives {A = Exit} (λ x st. Good st) q → ((st : State) → Good st → Says env m keep {A = Exit} Straight P (step st)) → ((st : State) → Good st → Gives {A = Exit} (λ x st. Good st) (step st)) → ((st : State) → Good st → Says env m keep {A = Exit} left_by (Loop C B P) (again st)) → Tells keep {A = Exit} left_by Tested FrontTested (then_do q (λ x st. on_round x st (λ st. then_do (step st) (λ y st. again st))))
-      after_body (Go on st z) step again h g hs gs k =
-          after_tells keep {A = Exit} left_by Rounded Tested FrontRounded FrontTested z (then_do (step st) (λ y st. again st)) (λ x t u q s c. q s (told keep z ++ t) goes_on c tt (h t)) (λ t u q s c. q s (told keep z ++ t) goes_on c tt (h t)) (after_step (step st) again (hs st g) (gs st g) k)
-      after_body (Go continued st z) step again h g hs gs k =
-          after_tells keep {A = Exit} left_by Rounded Tested FrontRounded FrontTested z (then_do (step st) (λ y st. again st)) (λ x t u q s c. q s (told keep z ++ t) continues c tt (h t)) (λ t u q s c. q s (told keep z ++ t) continues c tt (h t)) (after_step (step st) again (hs st g) (gs st g) k)
       after_body (Go broken st z) step again h g hs gs k =
           λ u s c. F.loop_break F.none c (subst (λ z. Whole env m B breaks (told keep z ++ u) u) (sym (append-nil z)) (h u))
       after_body (Go (returned v) st z) step again h g hs gs k =
           λ u s c. F.loop_return F.none c (subst (λ z. Whole env m B returns (told keep z ++ u) u) (sym (append-nil z)) (h u))
+      after_body (Go x st z) step again h g hs gs k =
+          after_tells keep {A = Exit} left_by Rounded Tested FrontRounded FrontTested z (then_do (step st) (λ y st. again st)) (λ y t u q s c. q s (told keep z ++ t) (left_by x) c tt (h t)) (λ t u q s c. q s (told keep z ++ t) (left_by x) c tt (h t)) (after_step (step st) again (hs st g) (gs st g) k)
       after_body (Stop o z) step again h g hs gs k = λ u s c. F.in_body F.none c (h u)
 
       pub round_says : (test : Result Bool) (body step again : State → Result Exit) → Says env m keep {A = Bool} Straight C test → Gives {A = Bool} (λ b st. Good st) test → ((st : State) → Good st → Says env m keep {A = Exit} left_by B (body st)) → ((st : State) → Good st → Gives {A = Exit} (λ x st. Good st) (body st)) → ((st : State) → Good st → Says env m keep {A = Exit} Straight P (step st)) → ((st : State) → Good st → Gives {A = Exit} (λ x st. Good st) (step st)) → ((st : State) → Good st → Says env m keep {A = Exit} left_by (Loop C B P) (again st)) → Says env m keep {A = Exit} left_by (Loop C B P) (then_do test (λ holds st. either holds (then_do (body st) (λ x st. on_round x st (λ st. then_do (step st) (λ y st. again st)))) (Go on st [])))
@@ -65,14 +63,12 @@ module _ (env : Shapes) (m : Marks) (keep : Event → List Event) where
 
   -- a body, and then the loop with the test first
   pub do_says : (B C : Shape) (Good : State → Type 0) (q : Result Exit) (again : State → Result Exit) → Says env m keep {A = Exit} left_by B q → Gives {A = Exit} (λ x st. Good st) q → ((st : State) → Good st → Says env m keep {A = Exit} left_by (Loop C B Skip) (again st)) → Says env m keep {A = Exit} left_by (Do B C) (then_do q (λ x st. on_round x st again))
-  do_says B C Good (Go on st z) again h g k =
-      after_tells keep {A = Exit} left_by (Whole env m (Loop C B Skip)) (Whole env m (Do B C)) (Front env m (Loop C B Skip)) (Front env m (Do B C)) z (again st) (λ x t u q. do_whole env m {y = goes_on} tt (h t) q) (λ t u q. do_front env m {y = goes_on} tt (h t) q) (k st g)
-  do_says B C Good (Go continued st z) again h g k =
-      after_tells keep {A = Exit} left_by (Whole env m (Loop C B Skip)) (Whole env m (Do B C)) (Front env m (Loop C B Skip)) (Front env m (Do B C)) z (again st) (λ x t u q. do_whole env m {y = continues} tt (h t) q) (λ t u q. do_front env m {y = continues} tt (h t) q) (k st g)
   do_says B C Good (Go broken st z) again h g k =
       λ u. F.do_break F.first (subst (λ z. Whole env m B breaks (told keep z ++ u) u) (sym (append-nil z)) (h u))
   do_says B C Good (Go (returned v) st z) again h g k =
       λ u. F.do_return F.first (subst (λ z. Whole env m B returns (told keep z ++ u) u) (sym (append-nil z)) (h u))
+  do_says B C Good (Go x st z) again h g k =
+      after_tells keep {A = Exit} left_by (Whole env m (Loop C B Skip)) (Whole env m (Do B C)) (Front env m (Loop C B Skip)) (Front env m (Do B C)) z (again st) (λ y t u q. do_whole env m {y = left_by x} tt (h t) q) (λ t u q. do_front env m {y = left_by x} tt (h t) q) (k st g)
   do_says B C Good (Stop o z) again h g k = λ u. F.in_do F.first (h u)
 
 -- which group a switch goes on at

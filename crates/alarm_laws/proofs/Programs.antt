@@ -22,11 +22,12 @@ use Rattle.c_meaning.specs.Meaning.{Marks, Frame, Loop as LoopOf, condition, per
 use Rattle.c_meaning.specs.Results.{State, with_memory, Result, Go, Stop, after, then_do, Exit, on, broken, continued, returned}
 use Rattle.c_meaning.specs.Runs.{entered, parameters, without_value, result_of, run_body, enter, loop, world, beginning, ending, run_with}
 use Rattle.c_meaning_laws.proofs.Standing.{body_stands}
+use Rattle.c_meaning_laws.specs.TypedResults.{StandsIn}
 use Rattle.alarm_laws.proofs.Lists.{got_in}
 use Rattle.alarm_laws.proofs.Says.{told, left_by, Straight, spend_tells, Says}
 use Rattle.alarm_laws.proofs.Loops.{round_says}
 use Rattle.alarm_laws.proofs.Places.{shape_at}
-use Rattle.alarm_laws.proofs.Guards.{Mentioned, with_turns, frame_of, IsGuarded, IsTied}
+use Rattle.alarm_laws.proofs.Guards.{with_turns, frame_of, IsGuarded, IsTied}
 use Rattle.alarm_laws.proofs.Calls.{Done, Entered}
 use Rattle.alarm_laws.proofs.Expressions.{IsFine}
 use Rattle.alarm_laws.proofs.Statements.{condition_says, condition_kept, step_says, step_kept, stmt_says}
@@ -77,7 +78,7 @@ module _ (p : Program) (n : ℕ) (right : IsProgram p n) (marks : Marks) (m : F.
         body j =
             stmt_says p n right marks m keep ties Good Passed guard k goes (frame_of g st) sound.gives false false g.body sound.typed (body_stands p f g is) (entered vs (with_turns st j)) (guard.entering f g r ts vs st j is type passed)
 
-    goes_round : (k : ℕ) → Fine k → (fr : Frame) (r : CType) (l : LoopOf) (st : State) → IsTest p fr.types l.test → IsStmt p fr.types r true true l.body → IsStep p fr.types l.step → Mentioned p (mentions_of_maybe l.test) → Mentioned p (mentions_of_stmt l.body) → Mentioned p (mentions_of_maybe l.step) → Good fr st → Says env m keep {A = Exit} left_by (Loop (shape_of_maybe p l.test) (shape_of_stmt p l.body) (shape_of_maybe p l.step)) (loop p (world p marks k) marks fr l st)
+    goes_round : (k : ℕ) → Fine k → (fr : Frame) (r : CType) (l : LoopOf) (st : State) → IsTest p fr.types l.test → IsStmt p fr.types r true true l.body → IsStep p fr.types l.step → StandsIn p (mentions_of_maybe l.test) → StandsIn p (mentions_of_stmt l.body) → StandsIn p (mentions_of_maybe l.step) → Good fr st → Says env m keep {A = Exit} left_by (Loop (shape_of_maybe p l.test) (shape_of_stmt p l.body) (shape_of_maybe p l.step)) (loop p (world p marks k) marks fr l st)
     goes_round k goes fr r l st ht hb hs mt mb ms g =
         spend_tells keep {A = Exit} left_by (Whole env m L) (Front env m L) st.turns st _ (λ u. F.nothing) (λ j. round_says env m keep (shape_of_maybe p l.test) (shape_of_stmt p l.body) (shape_of_maybe p l.step) (Good fr) (condition p (world p marks k) marks fr l.test (with_turns st j)) (exec p (world p marks k) marks fr l.body) (perhaps p (world p marks k) marks fr l.step) ((world p marks k).again fr l) (condition_says p n right marks m keep ties Good Passed guard k goes fr l.test ht mt (with_turns st j) (guard.turn fr st j g)) (condition_kept p n right marks m keep ties Good Passed guard k goes fr l.test ht mt (with_turns st j) (guard.turn fr st j g)) (λ st i. stmt_says p n right marks m keep ties Good Passed guard k goes fr r true true l.body hb mb st i) (λ st i. guard.statement k fr r true true l.body st hb mb i) (λ st i. step_says p n right marks m keep ties Good Passed guard k goes fr l.step hs ms st i) (λ st i. step_kept p n right marks m keep ties Good Passed guard k goes fr l.step hs ms st i) (λ st i. goes.again fr r l st ht hb hs mt mb ms i))
       where

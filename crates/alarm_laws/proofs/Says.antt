@@ -11,7 +11,7 @@ use Rattle.std.specs.Prelude.{ℕ, zero, suc}
 use Rattle.c_shapes.specs.Shape.{Shape, Parts, End, Part, Shapes, Leave, goes_on, breaks, continues, returns}
 use Rattle.c_shapes.specs.Words.{Marks, Whole, Falls, Front}
 use Rattle.c_shapes.specs.Words as F
-use Rattle.c_shapes.specs.ShapeOf.{seq, alt}
+use Rattle.c_shapes.specs.ShapeOf.{seq, seq_two, alt}
 use Rattle.alarm_laws.proofs.Words.{Stands, here, inside, beyond, one_falls, one_stands, seq_whole, seq_front, left_whole, right_whole, left_front, right_front}
 
 -- of each event, what a language reads
@@ -170,14 +170,15 @@ module _ (env : Shapes) (m : Marks) (keep : Event → List Event) where
   tested_says S r h =
       then_quiet {A = Value} {B = Bool} Straight S r _ h (λ v st. none_quiet {A = Bool} (test st.memory v) st)
 
+  -- a test, and one of two parts
+  pub choice_says : {A : Type 0} (by : A → Leave) (S T : Shape) (Good : State → Type 0) (r : Result Value) (a b : State → Result A) → Says {A = Value} Straight S r → Gives {A = Value} (λ v st. Good st) r → ((st : State) → Good st → Says {A = A} by T (a st) × Says {A = A} by T (b st)) → Says {A = A} by (seq_two S T) (then_do (tested r) (λ holds st. either holds (a st) (b st)))
+  choice_says by S T Good r a b h g q =
+      seq_says by (Part S (Part T End)) _ (part_then by S (Part T End) (λ v st. Good st) (tested r) _ (tested_says S r h) (tested_gives Good r g) (λ holds st i. part_alone by T (either holds (a st) (b st)) (either_tells keep by (Whole env m T) (Front env m T) holds (a st) (b st) (q st i).0 (q st i).1)))
+
   -- the first of two statements, and the others
   pub exit_then : (S : Shape) (ps : Parts) (P : Exit → State → Type 0) (r : Result Exit) (f : State → Result Exit) → Says {A = Exit} left_by S r → Gives {A = Exit} P r → ((x : Exit) (st : State) → P x st → SaysAll {A = Exit} left_by ps (f st)) → SaysAll {A = Exit} left_by (Part S ps) (then_do r (λ x st. on_exit x st f))
   exit_then S ps P (Go on st w) f h g k =
       after_tells keep {A = Exit} left_by (Falls env m ps) (Falls env m (Part S ps)) (Stands env m ps) (Stands env m (Part S ps)) w (f st) (λ x t u q. F.falls_on (h t) q) (λ t u q. beyond (h t) q) (k on st g)
-  exit_then S ps P (Go broken st w) f h g k =
-      λ u. subst (λ z. Falls env m (Part S ps) breaks (told keep z ++ u) u) (sym (append-nil w)) (F.falls_away tt (h u))
-  exit_then S ps P (Go continued st w) f h g k =
-      λ u. subst (λ z. Falls env m (Part S ps) continues (told keep z ++ u) u) (sym (append-nil w)) (F.falls_away tt (h u))
-  exit_then S ps P (Go (returned v) st w) f h g k =
-      λ u. subst (λ z. Falls env m (Part S ps) returns (told keep z ++ u) u) (sym (append-nil w)) (F.falls_away tt (h u))
+  exit_then S ps P (Go x st w) f h g k =
+      λ u. subst (λ z. Falls env m (Part S ps) (left_by x) (told keep z ++ u) u) (sym (append-nil w)) (F.falls_away tt (h u))
   exit_then S ps P (Stop o w) f h g k = λ u. inside (h u)

@@ -15,6 +15,7 @@ use Rattle.c_shapes.specs.Words as F
 use Rattle.c_shapes.specs.Mentions.{Callee, Direct, Through, Mention, Named, Calls, mentions, mentions_of_all, mentions_of_maybe, mentions_of_inits, mentions_of_stmt, mentions_of_stmts, mentions_of_groups, mentions_of_function}
 use Rattle.c_shapes.specs.CallGraph.{is_in, has_one, functions_of, callees, enters, said_by, one_round, reaching, reaches, is_marked}
 use Rattle.c_shapes.specs.ShapeOf.{before_parts, without_skips, in_turn, seq, seq_two, alt, system_call, marked_call, direct_call, shape, shapes_before, shape_of_maybe, shapes_of_inits, shape_of_stmt, shapes_of_stmts, shapes_of_groups, shape_of_function, has_default}
+use Rattle.c_shapes.proofs.Members.{or_right}
 use Rattle.c_shapes.proofs.Rounds.{enough}
 use Rattle.alarm_laws.proofs.Lists.{Each, each_left, each_right, each_first, each_rest, or_false_left, not_below, below, if_has, in_filter, in_range, is_in_of, none_passes}
 
@@ -127,12 +128,6 @@ module _ (p : Program) where
   abbrev Hushed : List Mention → Type 0
   Hushed ms = Each IsHushed ms
 
-  hushed_left : (xs ys : List Mention) → Hushed (xs ++ ys) → Hushed xs
-  hushed_left = each_left IsHushed
-
-  hushed_right : (xs ys : List Mention) → Hushed (xs ++ ys) → Hushed ys
-  hushed_right = each_right IsHushed
-
   -- a system call comes to itself
   pub system_reaches : (f : ℕ) → defined p ≤ f → f - defined p < 24 → reaches p f ≡ true
   system_reaches f le lt =
@@ -161,29 +156,29 @@ module _ (p : Program) where
     silent_expr (field t first a) h = silent_expr a h
     silent_expr (unary_operation t op a) h = silent_expr a h
     silent_expr (conversion t to a) h = silent_expr a h
-    silent_expr (arithmetic t op a b) h = two_silent (shape p a) (shape p b) (silent_expr a (hushed_left (mentions a) (mentions b) h)) (silent_expr b (hushed_right (mentions a) (mentions b) h))
-    silent_expr (comparison t op a b) h = two_silent (shape p a) (shape p b) (silent_expr a (hushed_left (mentions a) (mentions b) h)) (silent_expr b (hushed_right (mentions a) (mentions b) h))
-    silent_expr (pointer_add t first subtracted a b) h = two_silent (shape p a) (shape p b) (silent_expr a (hushed_left (mentions a) (mentions b) h)) (silent_expr b (hushed_right (mentions a) (mentions b) h))
-    silent_expr (pointer_diff t a b) h = two_silent (shape p a) (shape p b) (silent_expr a (hushed_left (mentions a) (mentions b) h)) (silent_expr b (hushed_right (mentions a) (mentions b) h))
-    silent_expr (and t a b) h = two_silent (shape p a) (alt (shape p b) Skip) (silent_expr a (hushed_left (mentions a) (mentions b) h)) (alt_silent (shape p b) Skip (silent_expr b (hushed_right (mentions a) (mentions b) h)) tt)
-    silent_expr (or t a b) h = two_silent (shape p a) (alt (shape p b) Skip) (silent_expr a (hushed_left (mentions a) (mentions b) h)) (alt_silent (shape p b) Skip (silent_expr b (hushed_right (mentions a) (mentions b) h)) tt)
-    silent_expr (assign t a b) h = two_silent (shape p a) (shape p b) (silent_expr a (hushed_left (mentions a) (mentions b) h)) (silent_expr b (hushed_right (mentions a) (mentions b) h))
-    silent_expr (update t op old a b) h = two_silent (shape p a) (shape p b) (silent_expr a (hushed_left (mentions a) (mentions b) h)) (silent_expr b (hushed_right (mentions a) (mentions b) h))
+    silent_expr (arithmetic t op a b) h = two_silent (shape p a) (shape p b) (silent_expr a (each_left IsHushed (mentions a) (mentions b) h)) (silent_expr b (each_right IsHushed (mentions a) (mentions b) h))
+    silent_expr (comparison t op a b) h = two_silent (shape p a) (shape p b) (silent_expr a (each_left IsHushed (mentions a) (mentions b) h)) (silent_expr b (each_right IsHushed (mentions a) (mentions b) h))
+    silent_expr (pointer_add t first subtracted a b) h = two_silent (shape p a) (shape p b) (silent_expr a (each_left IsHushed (mentions a) (mentions b) h)) (silent_expr b (each_right IsHushed (mentions a) (mentions b) h))
+    silent_expr (pointer_diff t a b) h = two_silent (shape p a) (shape p b) (silent_expr a (each_left IsHushed (mentions a) (mentions b) h)) (silent_expr b (each_right IsHushed (mentions a) (mentions b) h))
+    silent_expr (and t a b) h = two_silent (shape p a) (alt (shape p b) Skip) (silent_expr a (each_left IsHushed (mentions a) (mentions b) h)) (alt_silent (shape p b) Skip (silent_expr b (each_right IsHushed (mentions a) (mentions b) h)) tt)
+    silent_expr (or t a b) h = two_silent (shape p a) (alt (shape p b) Skip) (silent_expr a (each_left IsHushed (mentions a) (mentions b) h)) (alt_silent (shape p b) Skip (silent_expr b (each_right IsHushed (mentions a) (mentions b) h)) tt)
+    silent_expr (assign t a b) h = two_silent (shape p a) (shape p b) (silent_expr a (each_left IsHushed (mentions a) (mentions b) h)) (silent_expr b (each_right IsHushed (mentions a) (mentions b) h))
+    silent_expr (update t op old a b) h = two_silent (shape p a) (shape p b) (silent_expr a (each_left IsHushed (mentions a) (mentions b) h)) (silent_expr b (each_right IsHushed (mentions a) (mentions b) h))
     silent_expr (conditional t c a b) h =
-        let k = hushed_right (mentions c) (mentions a ++ mentions b) h in
-        two_silent (shape p c) (alt (shape p a) (shape p b)) (silent_expr c (hushed_left (mentions c) (mentions a ++ mentions b) h)) (alt_silent (shape p a) (shape p b) (silent_expr a (hushed_left (mentions a) (mentions b) k)) (silent_expr b (hushed_right (mentions a) (mentions b) k)))
+        let k = each_right IsHushed (mentions c) (mentions a ++ mentions b) h in
+        two_silent (shape p c) (alt (shape p a) (shape p b)) (silent_expr c (each_left IsHushed (mentions c) (mentions a ++ mentions b) h)) (alt_silent (shape p a) (shape p b) (silent_expr a (each_left IsHushed (mentions a) (mentions b) k)) (silent_expr b (each_right IsHushed (mentions a) (mentions b) k)))
     silent_expr (comma t es) h = seq_silent (shapes_before p es End) (silent_exprs es End h tt)
     silent_expr (call t s f es) h =
         seq_silent (shapes_before p es (Part (direct_call p s f es) End)) (silent_exprs es (Part (direct_call p s f es) End) (each_rest IsHushed (Calls s (Direct f)) (mentions_of_all es) h) (silent_direct s f es (each_first IsHushed (Calls s (Direct f)) (mentions_of_all es) h), tt))
     silent_expr (call_through t s a es) h =
         let c = Calls s (Through (type_of a)) in
-        let k = hushed_right (mentions a) (c ∷ mentions_of_all es) h in
-        seq_silent (Part (shape p a) (shapes_before p es (Part (marked_call p s (Through (type_of a))) End))) (silent_expr a (hushed_left (mentions a) (c ∷ mentions_of_all es) h), silent_exprs es (Part (marked_call p s (Through (type_of a))) End) (each_rest IsHushed c (mentions_of_all es) k) (silent_marked s (Through (type_of a)) (each_first IsHushed c (mentions_of_all es) k), tt))
+        let k = each_right IsHushed (mentions a) (c ∷ mentions_of_all es) h in
+        seq_silent (Part (shape p a) (shapes_before p es (Part (marked_call p s (Through (type_of a))) End))) (silent_expr a (each_left IsHushed (mentions a) (c ∷ mentions_of_all es) h), silent_exprs es (Part (marked_call p s (Through (type_of a))) End) (each_rest IsHushed c (mentions_of_all es) k) (silent_marked s (Through (type_of a)) (each_first IsHushed c (mentions_of_all es) k), tt))
     silent_expr e h = tt
 
     silent_exprs : (es : Exprs) (ps : Parts) → Hushed (mentions_of_all es) → AreSilent ps → AreSilent (shapes_before p es ps)
     silent_exprs no_exprs ps h k = k
-    silent_exprs (more_exprs e es) ps h k = (silent_expr e (hushed_left (mentions e) (mentions_of_all es) h), silent_exprs es ps (hushed_right (mentions e) (mentions_of_all es) h) k)
+    silent_exprs (more_exprs e es) ps h k = (silent_expr e (each_left IsHushed (mentions e) (mentions_of_all es) h), silent_exprs es ps (each_right IsHushed (mentions e) (mentions_of_all es) h) k)
 
   silent_maybe : (e : Maybe) → Hushed (mentions_of_maybe e) → IsSilent (shape_of_maybe p e)
   silent_maybe absent h = tt
@@ -191,7 +186,7 @@ module _ (p : Program) where
 
   silent_inits : (is : Inits) → Hushed (mentions_of_inits is) → AreSilent (shapes_of_inits p is)
   silent_inits no_inits h = tt
-  silent_inits (more_inits cell e is) h = (silent_expr e (hushed_left (mentions e) (mentions_of_inits is) h), silent_inits is (hushed_right (mentions e) (mentions_of_inits is) h))
+  silent_inits (more_inits cell e is) h = (silent_expr e (each_left IsHushed (mentions e) (mentions_of_inits is) h), silent_inits is (each_right IsHushed (mentions e) (mentions_of_inits is) h))
 
   mutual
     silent_stmt : (s : Stmt) → Hushed (mentions_of_stmt s) → IsSilent (shape_of_stmt p s)
@@ -199,37 +194,33 @@ module _ (p : Program) where
     silent_stmt (evaluate e) h = silent_expr e h
     silent_stmt (declare x is) h = seq_silent (shapes_of_inits p is) (silent_inits is h)
     silent_stmt (if_else e s u) h =
-        let k = hushed_right (mentions e) (mentions_of_stmt s ++ mentions_of_stmt u) h in
-        two_silent (shape p e) (alt (shape_of_stmt p s) (shape_of_stmt p u)) (silent_expr e (hushed_left (mentions e) (mentions_of_stmt s ++ mentions_of_stmt u) h)) (alt_silent (shape_of_stmt p s) (shape_of_stmt p u) (silent_stmt s (hushed_left (mentions_of_stmt s) (mentions_of_stmt u) k)) (silent_stmt u (hushed_right (mentions_of_stmt s) (mentions_of_stmt u) k)))
-    silent_stmt (while_loop e s) h = (silent_expr e (hushed_left (mentions e) (mentions_of_stmt s) h), silent_stmt s (hushed_right (mentions e) (mentions_of_stmt s) h), tt)
-    silent_stmt (do_loop s e) h = (silent_stmt s (hushed_left (mentions_of_stmt s) (mentions e) h), silent_expr e (hushed_right (mentions_of_stmt s) (mentions e) h))
+        let k = each_right IsHushed (mentions e) (mentions_of_stmt s ++ mentions_of_stmt u) h in
+        two_silent (shape p e) (alt (shape_of_stmt p s) (shape_of_stmt p u)) (silent_expr e (each_left IsHushed (mentions e) (mentions_of_stmt s ++ mentions_of_stmt u) h)) (alt_silent (shape_of_stmt p s) (shape_of_stmt p u) (silent_stmt s (each_left IsHushed (mentions_of_stmt s) (mentions_of_stmt u) k)) (silent_stmt u (each_right IsHushed (mentions_of_stmt s) (mentions_of_stmt u) k)))
+    silent_stmt (while_loop e s) h = (silent_expr e (each_left IsHushed (mentions e) (mentions_of_stmt s) h), silent_stmt s (each_right IsHushed (mentions e) (mentions_of_stmt s) h), tt)
+    silent_stmt (do_loop s e) h = (silent_stmt s (each_left IsHushed (mentions_of_stmt s) (mentions e) h), silent_expr e (each_right IsHushed (mentions_of_stmt s) (mentions e) h))
     silent_stmt (for_loop first test step s) h =
-        let k = hushed_right (mentions_of_stmts first) (mentions_of_maybe test ++ (mentions_of_maybe step ++ mentions_of_stmt s)) h in
-        let l = hushed_right (mentions_of_maybe test) (mentions_of_maybe step ++ mentions_of_stmt s) k in
-        two_silent (seq (shapes_of_stmts p first)) (Loop (shape_of_maybe p test) (shape_of_stmt p s) (shape_of_maybe p step)) (seq_silent (shapes_of_stmts p first) (silent_stmts first (hushed_left (mentions_of_stmts first) (mentions_of_maybe test ++ (mentions_of_maybe step ++ mentions_of_stmt s)) h))) (silent_maybe test (hushed_left (mentions_of_maybe test) (mentions_of_maybe step ++ mentions_of_stmt s) k), silent_stmt s (hushed_right (mentions_of_maybe step) (mentions_of_stmt s) l), silent_maybe step (hushed_left (mentions_of_maybe step) (mentions_of_stmt s) l))
-    silent_stmt (switch_on e gs) h = two_silent (shape p e) (Cases (shapes_of_groups p gs) (has_default gs)) (silent_expr e (hushed_left (mentions e) (mentions_of_groups gs) h)) (silent_groups gs (hushed_right (mentions e) (mentions_of_groups gs) h))
+        let k = each_right IsHushed (mentions_of_stmts first) (mentions_of_maybe test ++ (mentions_of_maybe step ++ mentions_of_stmt s)) h in
+        let l = each_right IsHushed (mentions_of_maybe test) (mentions_of_maybe step ++ mentions_of_stmt s) k in
+        two_silent (seq (shapes_of_stmts p first)) (Loop (shape_of_maybe p test) (shape_of_stmt p s) (shape_of_maybe p step)) (seq_silent (shapes_of_stmts p first) (silent_stmts first (each_left IsHushed (mentions_of_stmts first) (mentions_of_maybe test ++ (mentions_of_maybe step ++ mentions_of_stmt s)) h))) (silent_maybe test (each_left IsHushed (mentions_of_maybe test) (mentions_of_maybe step ++ mentions_of_stmt s) k), silent_stmt s (each_right IsHushed (mentions_of_maybe step) (mentions_of_stmt s) l), silent_maybe step (each_left IsHushed (mentions_of_maybe step) (mentions_of_stmt s) l))
+    silent_stmt (switch_on e gs) h = two_silent (shape p e) (Cases (shapes_of_groups p gs) (has_default gs)) (silent_expr e (each_left IsHushed (mentions e) (mentions_of_groups gs) h)) (silent_groups gs (each_right IsHushed (mentions e) (mentions_of_groups gs) h))
     silent_stmt (return_value e) h = two_silent (shape p e) Return (silent_expr e h) tt
     silent_stmt s h = tt
 
     silent_stmts : (ss : Stmts) → Hushed (mentions_of_stmts ss) → AreSilent (shapes_of_stmts p ss)
     silent_stmts no_stmts h = tt
-    silent_stmts (more_stmts s ss) h = (silent_stmt s (hushed_left (mentions_of_stmt s) (mentions_of_stmts ss) h), silent_stmts ss (hushed_right (mentions_of_stmt s) (mentions_of_stmts ss) h))
+    silent_stmts (more_stmts s ss) h = (silent_stmt s (each_left IsHushed (mentions_of_stmt s) (mentions_of_stmts ss) h), silent_stmts ss (each_right IsHushed (mentions_of_stmt s) (mentions_of_stmts ss) h))
 
     silent_groups : (gs : Groups) → Hushed (mentions_of_groups gs) → AreSilent (shapes_of_groups p gs)
     silent_groups no_groups h = tt
-    silent_groups (more_groups ls ss gs) h = (seq_silent (shapes_of_stmts p ss) (silent_stmts ss (hushed_left (mentions_of_stmts ss) (mentions_of_groups gs) h)), silent_groups gs (hushed_right (mentions_of_stmts ss) (mentions_of_groups gs) h))
+    silent_groups (more_groups ls ss gs) h = (seq_silent (shapes_of_stmts p ss) (silent_stmts ss (each_left IsHushed (mentions_of_stmts ss) (mentions_of_groups gs) h)), silent_groups gs (each_right IsHushed (mentions_of_stmts ss) (mentions_of_groups gs) h))
 
   -- what a function calls comes to no system call, where the function does not
   none_entered : (f : ℕ) (g : Function) → slice_get p.functions f ≡ Some g → reaches p f ≡ false → (b : Bool) → has_one (enters p (reaching p (defined p))) (said_by (slice_get p.functions f)) ≡ b → b ≡ false
   none_entered f g is never false e = refl
-  none_entered f g is never true e = absurd (false≢true (sym never ∙ enough p (suc (defined p)) f (is_in_of f (one_round p (reaching p (defined p))) (in_filter test (functions_of p) f (in_range 0 (defined p + 24) f (omega arith) (let lt = slice_get_within p.functions f g is in omega (arith, lt))) (ap (λ b. is_in f (reaching p (defined p)) || b) e ∙ any (is_in f (reaching p (defined p))))))))
-    where
-      test : ℕ → Bool
-      test f = is_in f (reaching p (defined p)) || has_one (enters p (reaching p (defined p))) (said_by (slice_get p.functions f))
-
-      any : (b : Bool) → (b || true) ≡ true
-      any true = refl
-      any false = refl
+  none_entered f g is never true e =
+      let R = reaching p (defined p) in
+      let lt = slice_get_within p.functions f g is in
+      absurd (false≢true (sym never ∙ enough p (suc (defined p)) f (is_in_of f (one_round p R) (in_filter (λ f. is_in f R || has_one (enters p R) (said_by (slice_get p.functions f))) (functions_of p) f (in_range 0 (defined p + 24) f (omega arith) (omega arith)) (or_right (is_in f R) _ e)))))
 
   hushed_call : (fs : List ℕ) (x : Mention) → fs ≡ reaching p (defined p) → enters p fs x ≡ false → IsHushed x
   hushed_call fs (Named f) e h = tt

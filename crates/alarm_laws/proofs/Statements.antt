@@ -18,12 +18,14 @@ use Rattle.c_meaning.specs.Meaning.{Marks, Frame, either, tested, eval, conditio
 use Rattle.c_meaning.specs.Pointers.{place, store_place}
 use Rattle.c_meaning.specs.Results.{State, with_memory, Result, Go, then_do, remembered, Exit, on, broken, continued, returned, on_exit, out_of_switch}
 use Rattle.c_meaning.specs.Runs.{world}
+use Rattle.c_meaning_laws.specs.TypedResults.{StandsIn}
+use Rattle.c_meaning_laws.proofs.Standing.{left_part, right_part}
 use Rattle.alarm_laws.proofs.Lists.{none_in, below, not_below}
 use Rattle.alarm_laws.proofs.Words.{Stands, here, stands_falls, out_of, cases_whole}
-use Rattle.alarm_laws.proofs.Says.{Gives, then_gives, tested_gives, Tells, left_by, Straight, change_tells, after_none, remembered_then, either_tells, then_left, Says, SaysAll, seq_says, left_says, right_says, part_alone, part_then, then_quiet, tested_says, exit_then}
+use Rattle.alarm_laws.proofs.Says.{Gives, then_gives, tested_gives, Tells, left_by, Straight, change_tells, after_none, remembered_then, either_tells, then_left, Says, SaysAll, seq_says, left_says, right_says, part_alone, part_then, then_quiet, tested_says, choice_says, exit_then}
 use Rattle.alarm_laws.proofs.Loops.{do_says, selected_within}
-use Rattle.alarm_laws.proofs.Guards.{Mentioned, IsGuarded, IsTied}
-use Rattle.alarm_laws.proofs.Expressions.{mentioned_left, mentioned_right, IsFine, value_says}
+use Rattle.alarm_laws.proofs.Guards.{IsGuarded, IsTied}
+use Rattle.alarm_laws.proofs.Expressions.{IsFine, value_says}
 
 module _ (p : Program) (n : ℕ) (right : IsProgram p n) (marks : Marks) (m : F.Marks) (keep : Event → List Event) (ties : IsTied p marks m keep) (Good : Frame → State → Type 0) (Passed : CTypes → List Value → State → Type 0) (guard : IsGuarded p marks Good Passed) (k : ℕ) (goes : IsFine p n right marks m keep ties Good Passed guard k) (fr : Frame) where
   abbrev env : Shapes
@@ -38,40 +40,40 @@ module _ (p : Program) (n : ℕ) (right : IsProgram p n) (marks : Marks) (m : F.
   abbrev Leaving : Shape → Result Exit → Type 0
   Leaving S r = Says env m keep {A = Exit} left_by S r
 
-  value_of : (wanted : Bool) (e : Expr) → IsValue p fr.types e → Mentioned p (mentions e) → (st : State) → Good fr st → Says env m keep {A = Value} Straight (shape p e) (E wanted e st)
+  value_of : (wanted : Bool) (e : Expr) → IsValue p fr.types e → StandsIn p (mentions e) → (st : State) → Good fr st → Says env m keep {A = Value} Straight (shape p e) (E wanted e st)
   value_of = value_says p n right marks m keep ties Good Passed guard k goes fr
 
-  kept_value : (wanted : Bool) (e : Expr) (st : State) → IsValue p fr.types e → Mentioned p (mentions e) → Good fr st → Gives {A = Value} (λ v st. Good fr st) (E wanted e st)
+  kept_value : (wanted : Bool) (e : Expr) (st : State) → IsValue p fr.types e → StandsIn p (mentions e) → Good fr st → Gives {A = Value} (λ v st. Good fr st) (E wanted e st)
   kept_value wanted e st h l g = guard.value k fr wanted e st h l g
 
   -- the parts of a loop
-  pub condition_says : (e : Maybe) → IsTest p fr.types e → Mentioned p (mentions_of_maybe e) → (st : State) → Good fr st → Says env m keep {A = Bool} Straight (shape_of_maybe p e) (condition p (world p marks k) marks fr e st)
+  pub condition_says : (e : Maybe) → IsTest p fr.types e → StandsIn p (mentions_of_maybe e) → (st : State) → Good fr st → Says env m keep {A = Bool} Straight (shape_of_maybe p e) (condition p (world p marks k) marks fr e st)
   condition_says absent h l st g = λ u. F.skip
   condition_says (there e) h l st g = tested_says env m keep (shape p e) (E true e st) (value_of true e h.1 l st g)
 
-  pub condition_kept : (e : Maybe) → IsTest p fr.types e → Mentioned p (mentions_of_maybe e) → (st : State) → Good fr st → Gives {A = Bool} (λ b st. Good fr st) (condition p (world p marks k) marks fr e st)
+  pub condition_kept : (e : Maybe) → IsTest p fr.types e → StandsIn p (mentions_of_maybe e) → (st : State) → Good fr st → Gives {A = Bool} (λ b st. Good fr st) (condition p (world p marks k) marks fr e st)
   condition_kept absent h l st g = g
   condition_kept (there e) h l st g = tested_gives (Good fr) (E true e st) (kept_value true e st h.1 l g)
 
-  pub step_says : (e : Maybe) → IsStep p fr.types e → Mentioned p (mentions_of_maybe e) → (st : State) → Good fr st → Says env m keep {A = Exit} Straight (shape_of_maybe p e) (perhaps p (world p marks k) marks fr e st)
+  pub step_says : (e : Maybe) → IsStep p fr.types e → StandsIn p (mentions_of_maybe e) → (st : State) → Good fr st → Says env m keep {A = Exit} Straight (shape_of_maybe p e) (perhaps p (world p marks k) marks fr e st)
   step_says absent h l st g = λ u. F.skip
   step_says (there e) h l st g =
       then_quiet env m keep {A = Value} {B = Exit} Straight (shape p e) (E false e st) _ (value_of false e h l st g) (λ v st u. F.ended)
 
-  pub step_kept : (e : Maybe) → IsStep p fr.types e → Mentioned p (mentions_of_maybe e) → (st : State) → Good fr st → Keeping (perhaps p (world p marks k) marks fr e st)
+  pub step_kept : (e : Maybe) → IsStep p fr.types e → StandsIn p (mentions_of_maybe e) → (st : State) → Good fr st → Keeping (perhaps p (world p marks k) marks fr e st)
   step_kept absent h l st g = g
   step_kept (there e) h l st g =
       then_gives {A = Value} {B = Exit} (λ v st. Good fr st) (λ x st. Good fr st) (E false e st) _ (kept_value false e st h l g) (λ v st i. i)
 
   -- the initialisers of a variable
-  inits_say : (x : ℕ) (t : CType) (is : Inits) → slice_get fr.types x ≡ Some t → AreInits p fr.types (flat p.structs t) is → Mentioned p (mentions_of_inits is) → (st : State) → Good fr st → SaysAll env m keep {A = Exit} left_by (shapes_of_inits p is) (initialise p (world p marks k) marks fr x is st)
+  inits_say : (x : ℕ) (t : CType) (is : Inits) → slice_get fr.types x ≡ Some t → AreInits p fr.types (flat p.structs t) is → StandsIn p (mentions_of_inits is) → (st : State) → Good fr st → SaysAll env m keep {A = Exit} left_by (shapes_of_inits p is) (initialise p (world p marks k) marks fr x is st)
   inits_say x t no_inits e h l st g = λ u. F.ended
   inits_say x t (more_inits cell a is) e h l st g =
-      let i = mentioned_left p (mentions a) (mentions_of_inits is) l in
+      let i = left_part p (mentions a) (mentions_of_inits is) l in
       part_then env m keep {A = Value} {B = Exit} left_by (shape p a) (shapes_of_inits p is) (λ v u. Gives {A = Value} (λ y z. Good fr z) (remembered (store_place u.memory (place (name_in fr false x) cell 1) v) v u)) (E true a st) _ (value_of true a h.1 i st g) (guard.stored k fr x cell t a st e h.0 h.1 i g) (λ v u j.
-      remembered_then keep {A = Value} {B = Exit} left_by (Falls env m (shapes_of_inits p is)) (Stands env m (shapes_of_inits p is)) (λ y z. Good fr z) (store_place u.memory (place (name_in fr false x) cell 1) v) v u _ (λ u. here) j (λ z o. inits_say x t is e h.2 (mentioned_right p (mentions a) (mentions_of_inits is) l) z o))
+      remembered_then keep {A = Value} {B = Exit} left_by (Falls env m (shapes_of_inits p is)) (Stands env m (shapes_of_inits p is)) (λ y z. Good fr z) (store_place u.memory (place (name_in fr false x) cell 1) v) v u _ (λ u. here) j (λ z o. inits_say x t is e h.2 (right_part p (mentions a) (mentions_of_inits is) l) z o))
 
-  declare_says : (x : ℕ) (t : CType) (is : Inits) (o : Option CType) → slice_get fr.types x ≡ o → o ≡ Some t → AreInits p fr.types (flat p.structs t) is → Mentioned p (mentions_of_inits is) → (st : State) → Good fr st → SaysAll env m keep {A = Exit} left_by (shapes_of_inits p is) (then_do (fresh p.structs fr x o st) (λ y st. initialise p (world p marks k) marks fr x is st))
+  declare_says : (x : ℕ) (t : CType) (is : Inits) (o : Option CType) → slice_get fr.types x ≡ o → o ≡ Some t → AreInits p fr.types (flat p.structs t) is → StandsIn p (mentions_of_inits is) → (st : State) → Good fr st → SaysAll env m keep {A = Exit} left_by (shapes_of_inits p is) (then_do (fresh p.structs fr x o st) (λ y st. initialise p (world p marks k) marks fr x is st))
   declare_says x t is None e q h l st g = λ u. here
   declare_says x t is (Some c) e q h l st g =
       after_none keep {A = Exit} left_by (Falls env m (shapes_of_inits p is)) (Stands env m (shapes_of_inits p is)) (initialise p (world p marks k) marks fr x is _) (inits_say x t is (e ∙ q) h l _ (guard.fresh_kept fr x c st e g))
@@ -80,11 +82,6 @@ module _ (p : Program) (n : ℕ) (right : IsProgram p n) (marks : Marks) (m : F.
   leaving_says : (S : Shape) (xs : List ℕ) (r : Result Exit) → Leaving S r → Leaving S (leaving fr xs r)
   leaving_says S xs r h =
       then_left keep {A = Exit} {B = Exit} left_by left_by (Whole env m S) (Whole env m S) (Front env m S) r (λ x st. x) (λ x st. with_memory st (without fr.activation xs st.memory)) (λ x st t u z. z) h
-
-  -- a condition, and one of two statements
-  choice_says : (S T U : Shape) (r : Result Value) (a b : State → Result Exit) → Says env m keep {A = Value} Straight S r → Gives {A = Value} (λ v st. Good fr st) r → ((st : State) → Good fr st → Leaving T (a st)) → ((st : State) → Good fr st → Leaving U (b st)) → Leaving (seq_two S (alt T U)) (then_do (tested r) (λ holds st. either holds (a st) (b st)))
-  choice_says S T U r a b h g l q =
-      seq_says env m keep {A = Exit} left_by (Part S (Part (alt T U) End)) _ (part_then env m keep {A = Bool} {B = Exit} left_by S (Part (alt T U) End) (λ v st. Good fr st) (tested r) _ (tested_says env m keep S r h) (tested_gives (Good fr) r g) (λ holds st i. part_alone env m keep {A = Exit} left_by (alt T U) (either holds (a st) (b st)) (either_tells keep {A = Exit} left_by (Whole env m (alt T U)) (Front env m (alt T U)) holds (a st) (b st) (left_says env m keep {A = Exit} left_by T U (a st) (l st i)) (right_says env m keep {A = Exit} left_by T U (b st) (q st i)))))
 
   -- what may stand first in the head of a for is a statement
   first_is : (r : CType) (s : Stmt) → IsFirst p fr.types s → IsStmt p fr.types r false false s
@@ -97,16 +94,14 @@ module _ (p : Program) (n : ℕ) (right : IsProgram p n) (marks : Marks) (m : F.
   first_are r (more_stmts s ss) h = (first_is r s h.0, first_are r ss h.1)
 
   -- statements in order keep what is good
-  stmts_kept : (r : CType) (b c : Bool) (ss : Stmts) → AreStmts p fr.types r b c ss → Mentioned p (mentions_of_stmts ss) → (st : State) → Good fr st → Keeping (exec_all p (world p marks k) marks fr ss st)
+  stmts_kept : (r : CType) (b c : Bool) (ss : Stmts) → AreStmts p fr.types r b c ss → StandsIn p (mentions_of_stmts ss) → (st : State) → Good fr st → Keeping (exec_all p (world p marks k) marks fr ss st)
   stmts_kept r b c no_stmts h l st g = g
   stmts_kept r b c (more_stmts s ss) h l st g =
-      then_gives {A = Exit} {B = Exit} (λ x st. Good fr st) (λ x st. Good fr st) (exec p (world p marks k) marks fr s st) _ (guard.statement k fr r b c s st h.0 (mentioned_left p (mentions_of_stmt s) (mentions_of_stmts ss) l) g) (λ x st i. by x st i (stmts_kept r b c ss h.1 (mentioned_right p (mentions_of_stmt s) (mentions_of_stmts ss) l)))
+      then_gives {A = Exit} {B = Exit} (λ x st. Good fr st) (λ x st. Good fr st) (exec p (world p marks k) marks fr s st) _ (guard.statement k fr r b c s st h.0 (left_part p (mentions_of_stmt s) (mentions_of_stmts ss) l) g) (λ x st i. by x st i (stmts_kept r b c ss h.1 (right_part p (mentions_of_stmt s) (mentions_of_stmts ss) l)))
     where
       by : (x : Exit) (st : State) → Good fr st → ((st : State) → Good fr st → Keeping (exec_all p (world p marks k) marks fr ss st)) → Keeping (on_exit x st (exec_all p (world p marks k) marks fr ss))
       by on st i rest = rest st i
-      by broken st i rest = i
-      by continued st i rest = i
-      by (returned v) st i rest = i
+      by x st i rest = i
 
   -- past all groups of a switch
   past_all : (gs : Groups) (j : ℕ) (st : State) → count_groups gs ≤ j → exec_from p (world p marks k) marks fr j gs st ≡ Go on st []
@@ -145,7 +140,7 @@ module _ (p : Program) (n : ℕ) (right : IsProgram p n) (marks : Marks) (m : F.
           none_left gs (selected v gs) st (has_default gs) (none (has_default gs) refl le) le
 
   mutual
-    pub stmt_says : (r : CType) (b c : Bool) (s : Stmt) → IsStmt p fr.types r b c s → Mentioned p (mentions_of_stmt s) → (st : State) → Good fr st → Leaving (shape_of_stmt p s) (exec p (world p marks k) marks fr s st)
+    pub stmt_says : (r : CType) (b c : Bool) (s : Stmt) → IsStmt p fr.types r b c s → StandsIn p (mentions_of_stmt s) → (st : State) → Good fr st → Leaving (shape_of_stmt p s) (exec p (world p marks k) marks fr s st)
     stmt_says r b c (block ss) h l st g =
         leaving_says (seq (shapes_of_stmts p ss)) (declared_in ss) _ (seq_says env m keep {A = Exit} left_by (shapes_of_stmts p ss) _ (stmts_say r b c ss h l st g))
     stmt_says r b c empty h l st g = λ u. F.skip
@@ -154,51 +149,53 @@ module _ (p : Program) (n : ℕ) (right : IsProgram p n) (marks : Marks) (m : F.
     stmt_says r b c (declare x is) h l st g =
         seq_says env m keep {A = Exit} left_by (shapes_of_inits p is) _ (declare_says x h.0 is (slice_get fr.types x) refl h.1 h.2 l st g)
     stmt_says r b c (if_else e s u) h l st g =
-        let i = mentioned_left p (mentions e) (mentions_of_stmt s ++ mentions_of_stmt u) l in
-        let j = mentioned_right p (mentions e) (mentions_of_stmt s ++ mentions_of_stmt u) l in
-        choice_says (shape p e) (shape_of_stmt p s) (shape_of_stmt p u) (E true e st) (exec p (world p marks k) marks fr s) (exec p (world p marks k) marks fr u) (value_of true e h.0.1 i st g) (kept_value true e st h.0.1 i g) (stmt_says r b c s h.1 (mentioned_left p (mentions_of_stmt s) (mentions_of_stmt u) j)) (stmt_says r b c u h.2 (mentioned_right p (mentions_of_stmt s) (mentions_of_stmt u) j))
+        let i = left_part p (mentions e) (mentions_of_stmt s ++ mentions_of_stmt u) l in
+        let j = right_part p (mentions e) (mentions_of_stmt s ++ mentions_of_stmt u) l in
+        let S = shape_of_stmt p s in
+        let U = shape_of_stmt p u in
+        choice_says env m keep {A = Exit} left_by (shape p e) (alt S U) (Good fr) (E true e st) (exec p (world p marks k) marks fr s) (exec p (world p marks k) marks fr u) (value_of true e h.0.1 i st g) (kept_value true e st h.0.1 i g) (λ st q. (left_says env m keep {A = Exit} left_by S U _ (stmt_says r b c s h.1 (left_part p (mentions_of_stmt s) (mentions_of_stmt u) j) st q), right_says env m keep {A = Exit} left_by S U _ (stmt_says r b c u h.2 (right_part p (mentions_of_stmt s) (mentions_of_stmt u) j) st q)))
     stmt_says r b c (while_loop e s) h l st g =
-        goes.again fr r _ st h.0 h.1 tt (mentioned_left p (mentions e) (mentions_of_stmt s) l) (mentioned_right p (mentions e) (mentions_of_stmt s) l) (λ x q. absurd (none_in x q)) g
+        goes.again fr r _ st h.0 h.1 tt (left_part p (mentions e) (mentions_of_stmt s) l) (right_part p (mentions e) (mentions_of_stmt s) l) (λ x q. absurd (none_in x q)) g
     stmt_says r b c (do_loop s e) h l st g =
-        let i = mentioned_left p (mentions_of_stmt s) (mentions e) l in
-        let j = mentioned_right p (mentions_of_stmt s) (mentions e) l in
+        let i = left_part p (mentions_of_stmt s) (mentions e) l in
+        let j = right_part p (mentions_of_stmt s) (mentions e) l in
         do_says env m keep (shape_of_stmt p s) (shape p e) (Good fr) (exec p (world p marks k) marks fr s st) _ (stmt_says r true true s h.0 i st g) (guard.statement k fr r true true s st h.0 i g) (λ st o. goes.again fr r _ st h.1 h.0 tt j i (λ x q. absurd (none_in x q)) o)
     stmt_says r b c (for_loop first test step s) h l st g =
         let others = mentions_of_maybe test ++ (mentions_of_maybe step ++ mentions_of_stmt s) in
-        let i = mentioned_left p (mentions_of_stmts first) others l in
-        let j = mentioned_right p (mentions_of_stmts first) others l in
-        let o = mentioned_right p (mentions_of_maybe test) (mentions_of_maybe step ++ mentions_of_stmt s) j in
+        let i = left_part p (mentions_of_stmts first) others l in
+        let j = right_part p (mentions_of_stmts first) others l in
+        let o = right_part p (mentions_of_maybe test) (mentions_of_maybe step ++ mentions_of_stmt s) j in
         let S = seq (shapes_of_stmts p first) in
         let L = Loop (shape_of_maybe p test) (shape_of_stmt p s) (shape_of_maybe p step) in
         leaving_says (seq_two S L) (declared_in first) _ (seq_says env m keep {A = Exit} left_by (Part S (Part L End)) _ (exit_then env m keep S (Part L End) (λ x st. Good fr st) (exec_all p (world p marks k) marks fr first st) _ (seq_says env m keep {A = Exit} left_by (shapes_of_stmts p first) _ (stmts_say r false false first (first_are r first h.0) i st g)) (stmts_kept r false false first (first_are r first h.0) i st g) (λ x st q.
-        part_alone env m keep {A = Exit} left_by L _ (goes.again fr r _ st h.1 h.3 h.2 (mentioned_left p (mentions_of_maybe test) (mentions_of_maybe step ++ mentions_of_stmt s) j) (mentioned_right p (mentions_of_maybe step) (mentions_of_stmt s) o) (mentioned_left p (mentions_of_maybe step) (mentions_of_stmt s) o) q))))
+        part_alone env m keep {A = Exit} left_by L _ (goes.again fr r _ st h.1 h.3 h.2 (left_part p (mentions_of_maybe test) (mentions_of_maybe step ++ mentions_of_stmt s) j) (right_part p (mentions_of_maybe step) (mentions_of_stmt s) o) (left_part p (mentions_of_maybe step) (mentions_of_stmt s) o) q))))
     stmt_says r b c (switch_on e gs) h l st g =
-        let i = mentioned_left p (mentions e) (mentions_of_groups gs) l in
+        let i = left_part p (mentions e) (mentions_of_groups gs) l in
         let C = Cases (shapes_of_groups p gs) (has_default gs) in
         seq_says env m keep {A = Exit} left_by (Part (shape p e) (Part C End)) _ (part_then env m keep {A = Value} {B = Exit} left_by (shape p e) (Part C End) (λ v st. Good fr st) (E true e st) _ (value_of true e h.3 i st g) (kept_value true e st h.3 i g) (λ v st q.
-        part_alone env m keep {A = Exit} left_by C _ (switch_says v gs st (groups_say r c h.0 gs h.5 (mentioned_right p (mentions e) (mentions_of_groups gs) l) (selected v gs) st q))))
+        part_alone env m keep {A = Exit} left_by C _ (switch_says v gs st (groups_say r c h.0 gs h.5 (right_part p (mentions e) (mentions_of_groups gs) l) (selected v gs) st q))))
     stmt_says r b c break_off h l st g = λ u. F.break_out
     stmt_says r b c continue_on h l st g = λ u. F.continue_on
     stmt_says r b c return_void h l st g = λ u. F.return_now
     stmt_says r b c (return_value e) h l st g =
         seq_says env m keep {A = Exit} left_by (Part (shape p e) (Part Return End)) _ (part_then env m keep {A = Value} {B = Exit} left_by (shape p e) (Part Return End) (λ v st. Good fr st) (E true e st) _ (value_of true e h.2 l st g) (kept_value true e st h.2 l g) (λ v st q. part_alone env m keep {A = Exit} left_by Return (Go (returned (Some v)) st []) (λ u. F.return_now)))
 
-    stmts_say : (r : CType) (b c : Bool) (ss : Stmts) → AreStmts p fr.types r b c ss → Mentioned p (mentions_of_stmts ss) → (st : State) → Good fr st → SaysAll env m keep {A = Exit} left_by (shapes_of_stmts p ss) (exec_all p (world p marks k) marks fr ss st)
+    stmts_say : (r : CType) (b c : Bool) (ss : Stmts) → AreStmts p fr.types r b c ss → StandsIn p (mentions_of_stmts ss) → (st : State) → Good fr st → SaysAll env m keep {A = Exit} left_by (shapes_of_stmts p ss) (exec_all p (world p marks k) marks fr ss st)
     stmts_say r b c no_stmts h l st g = λ u. F.ended
     stmts_say r b c (more_stmts s ss) h l st g =
-        let i = mentioned_left p (mentions_of_stmt s) (mentions_of_stmts ss) l in
-        exit_then env m keep (shape_of_stmt p s) (shapes_of_stmts p ss) (λ x st. Good fr st) (exec p (world p marks k) marks fr s st) (exec_all p (world p marks k) marks fr ss) (stmt_says r b c s h.0 i st g) (guard.statement k fr r b c s st h.0 i g) (λ x st q. stmts_say r b c ss h.1 (mentioned_right p (mentions_of_stmt s) (mentions_of_stmts ss) l) st q)
+        let i = left_part p (mentions_of_stmt s) (mentions_of_stmts ss) l in
+        exit_then env m keep (shape_of_stmt p s) (shapes_of_stmts p ss) (λ x st. Good fr st) (exec p (world p marks k) marks fr s st) (exec_all p (world p marks k) marks fr ss) (stmt_says r b c s h.0 i st g) (guard.statement k fr r b c s st h.0 i g) (λ x st q. stmts_say r b c ss h.1 (right_part p (mentions_of_stmt s) (mentions_of_stmts ss) l) st q)
 
-    groups_say : (r : CType) (c : Bool) (t : IntType) (gs : Groups) → AreGroups p fr.types r c t gs → Mentioned p (mentions_of_groups gs) → (j : ℕ) (st : State) → Good fr st → j < count_groups gs → Picking gs (exec_from p (world p marks k) marks fr j gs st)
+    groups_say : (r : CType) (c : Bool) (t : IntType) (gs : Groups) → AreGroups p fr.types r c t gs → StandsIn p (mentions_of_groups gs) → (j : ℕ) (st : State) → Good fr st → j < count_groups gs → Picking gs (exec_from p (world p marks k) marks fr j gs st)
     groups_say r c t no_groups h l j st g lt = absurd (omega (arith, lt))
     groups_say r c t (more_groups ls ss gs) h l zero st g lt =
-        let i = mentioned_left p (mentions_of_stmts ss) (mentions_of_groups gs) l in
-        change_tells keep {A = Exit} left_by (Falls env m (shapes_of_groups p (more_groups ls ss gs))) (Picks env m (shapes_of_groups p (more_groups ls ss gs))) (Stands env m (shapes_of_groups p (more_groups ls ss gs))) (FrontPicks env m (shapes_of_groups p (more_groups ls ss gs))) _ (λ x t u z. F.this z) (λ t u z. F.from_this (stands_falls env m z)) (exit_then env m keep (seq (shapes_of_stmts p ss)) (shapes_of_groups p gs) (λ x st. Good fr st) (exec_all p (world p marks k) marks fr ss st) _ (seq_says env m keep {A = Exit} left_by (shapes_of_stmts p ss) _ (stmts_say r true c ss h.1 i st g)) (stmts_kept r true c ss h.1 i st g) (λ x st q. all_groups_say r c t gs h.2 (mentioned_right p (mentions_of_stmts ss) (mentions_of_groups gs) l) st q))
+        let i = left_part p (mentions_of_stmts ss) (mentions_of_groups gs) l in
+        change_tells keep {A = Exit} left_by (Falls env m (shapes_of_groups p (more_groups ls ss gs))) (Picks env m (shapes_of_groups p (more_groups ls ss gs))) (Stands env m (shapes_of_groups p (more_groups ls ss gs))) (FrontPicks env m (shapes_of_groups p (more_groups ls ss gs))) _ (λ x t u z. F.this z) (λ t u z. F.from_this (stands_falls env m z)) (exit_then env m keep (seq (shapes_of_stmts p ss)) (shapes_of_groups p gs) (λ x st. Good fr st) (exec_all p (world p marks k) marks fr ss st) _ (seq_says env m keep {A = Exit} left_by (shapes_of_stmts p ss) _ (stmts_say r true c ss h.1 i st g)) (stmts_kept r true c ss h.1 i st g) (λ x st q. all_groups_say r c t gs h.2 (right_part p (mentions_of_stmts ss) (mentions_of_groups gs) l) st q))
     groups_say r c t (more_groups ls ss gs) h l (suc j) st g lt =
-        change_tells keep {A = Exit} left_by (Picks env m (shapes_of_groups p gs)) (Picks env m (shapes_of_groups p (more_groups ls ss gs))) (FrontPicks env m (shapes_of_groups p gs)) (FrontPicks env m (shapes_of_groups p (more_groups ls ss gs))) _ (λ x t u z. F.later z) (λ t u z. F.from_later z) (groups_say r c t gs h.2 (mentioned_right p (mentions_of_stmts ss) (mentions_of_groups gs) l) j st g (omega (arith, lt)))
+        change_tells keep {A = Exit} left_by (Picks env m (shapes_of_groups p gs)) (Picks env m (shapes_of_groups p (more_groups ls ss gs))) (FrontPicks env m (shapes_of_groups p gs)) (FrontPicks env m (shapes_of_groups p (more_groups ls ss gs))) _ (λ x t u z. F.later z) (λ t u z. F.from_later z) (groups_say r c t gs h.2 (right_part p (mentions_of_stmts ss) (mentions_of_groups gs) l) j st g (omega (arith, lt)))
 
-    all_groups_say : (r : CType) (c : Bool) (t : IntType) (gs : Groups) → AreGroups p fr.types r c t gs → Mentioned p (mentions_of_groups gs) → (st : State) → Good fr st → SaysAll env m keep {A = Exit} left_by (shapes_of_groups p gs) (exec_from p (world p marks k) marks fr zero gs st)
+    all_groups_say : (r : CType) (c : Bool) (t : IntType) (gs : Groups) → AreGroups p fr.types r c t gs → StandsIn p (mentions_of_groups gs) → (st : State) → Good fr st → SaysAll env m keep {A = Exit} left_by (shapes_of_groups p gs) (exec_from p (world p marks k) marks fr zero gs st)
     all_groups_say r c t no_groups h l st g = λ u. F.ended
     all_groups_say r c t (more_groups ls ss gs) h l st g =
-        let i = mentioned_left p (mentions_of_stmts ss) (mentions_of_groups gs) l in
-        exit_then env m keep (seq (shapes_of_stmts p ss)) (shapes_of_groups p gs) (λ x st. Good fr st) (exec_all p (world p marks k) marks fr ss st) _ (seq_says env m keep {A = Exit} left_by (shapes_of_stmts p ss) _ (stmts_say r true c ss h.1 i st g)) (stmts_kept r true c ss h.1 i st g) (λ x st q. all_groups_say r c t gs h.2 (mentioned_right p (mentions_of_stmts ss) (mentions_of_groups gs) l) st q)
+        let i = left_part p (mentions_of_stmts ss) (mentions_of_groups gs) l in
+        exit_then env m keep (seq (shapes_of_stmts p ss)) (shapes_of_groups p gs) (λ x st. Good fr st) (exec_all p (world p marks k) marks fr ss st) _ (seq_says env m keep {A = Exit} left_by (shapes_of_stmts p ss) _ (stmts_say r true c ss h.1 i st g)) (stmts_kept r true c ss h.1 i st g) (λ x st q. all_groups_say r c t gs h.2 (right_part p (mentions_of_stmts ss) (mentions_of_groups gs) l) st q)
