@@ -140,18 +140,12 @@ module _ (p : Program) (n : ℕ) (right : IsProgram p n) (marks : Marks) (m : F.
     undefined_says : (s f : ℕ) (t : CType) (ts : CTypes) (vars : List CType) (es : Exprs) (vs : List Value) (st : State) → Contains (mentions_of_program p) (Calls s (Direct f)) → called_type p f ≡ Some (function t ts) → AreArguments p vars ts es → AreConstants es vs → nat_lt f (defined p) ≡ false → Says env m keep {A = Value} Straight (if nat_lt (f - defined p) 24 then system_shape (f - defined p) (pattern_of (f - defined p) es) else Skip) (call_undefined (f - defined p) vs st)
     undefined_says s f t ts vars es vs st k type args told_of ge = at (nat_lt (f - defined p) 24) refl
       where
-        x : ℕ
-        x = f - defined p
-
-        null_at : (event : ℕ → Event) (j : ℕ) (b : Bool) → nat_eq (f - defined p) j ≡ b → (f ≡ defined p + j → (site : ℕ) → keep (event site) ≡ []) → (rest : Result Value) → Says env m keep {A = Value} Straight Skip rest → Says env m keep {A = Value} Straight Skip (if b then null_call event vs st else rest)
-        null_at event j true e h rest r = null_says event (h (number_is f j (not_below f (defined p) ge) e)) vs st
-        null_at event j false e h rest r = r
-
         at : (b : Bool) → nat_lt (f - defined p) 24 ≡ b → Says env m keep {A = Value} Straight (if b then system_shape (f - defined p) (pattern_of (f - defined p) es) else Skip) (if b then system_call (f - defined p) vs st else (if nat_eq (f - defined p) 24 then null_call Pre vs st else (if nat_eq (f - defined p) 25 then null_call Post vs st else Stop (Undefined U13) [])))
         at true e =
             system_says (f - defined p) (pattern_of (f - defined p) es) vs st (request_fits p vars st.memory (f - defined p) t ts es vs (called_system p f (function t ts) type (not_below f (defined p) ge) (below (f - defined p) 24 e)) args told_of)
         at false e =
-            null_at Pre 24 (nat_eq (f - defined p) 24) refl (ties.null_pre s f k) _ (null_at Post 25 (nat_eq (f - defined p) 25) refl (ties.null_post s f k) _ (λ u. F.nothing))
+            if_has (Says env m keep {A = Value} Straight Skip) (nat_eq (f - defined p) 24) _ _ (λ e. null_says Pre (ties.null_pre s f k (number_is f 24 (not_below f (defined p) ge) e)) vs st) (λ e.
+            if_has (Says env m keep {A = Value} Straight Skip) (nat_eq (f - defined p) 25) _ _ (λ e. null_says Post (ties.null_post s f k (number_is f 25 (not_below f (defined p) ge) e)) vs st) (λ e u. F.nothing))
 
     pub called_says : (s f : ℕ) (t : CType) (ts : CTypes) (vars : List CType) (es : Exprs) (vs : List Value) (st : State) → Contains (mentions_of_program p) (Calls s (Direct f)) → called_type p f ≡ Some (function t ts) → AreArguments p vars ts es → AreConstants es vs → ((g : Function) → slice_get p.functions f ≡ Some g → g.ctype ≡ function t ts → Entered (shape_of_function p g) (w.enter wanted f vs st)) → Says env m keep {A = Value} Straight (direct_call p s f es) (with_marks marks s (called p w wanted f vs st))
     called_says s f t ts vars es vs st k type args told_of enters = at (nat_lt f (defined p)) refl
@@ -170,31 +164,21 @@ module _ (p : Program) (n : ℕ) (right : IsProgram p n) (marks : Marks) (m : F.
     module _ (s : ℕ) (t : CType) (vs : List Value) (st : State) (k : Contains (mentions_of_program p) (Calls s (Through (pointer t)))) (enters : (f : ℕ) (g : Function) → slice_get p.functions f ≡ Some g → g.ctype ≡ t → Entered (shape_of_function p g) (w.enter wanted f vs st)) where
       -- what a candidate does
       candidate_says : (f : ℕ) → Contains (callees p (Through (pointer t))) f → Entered (shape_of env (place_of p f)) (called_through p w wanted f vs st)
-      candidate_says f among = at (nat_lt f (defined p)) refl
-        where
-          alone : (b : Bool) → nat_lt (f - defined p) 24 ≡ b → defined p ≤ f → Entered (shape_of env (place_of p f)) (if b then system_call (f - defined p) vs st else Stop (Undefined U13) [])
-          alone true e le =
-              let r = system_taken p (pointer t) f among le in
-              entered_from (shape_of env (place_of p f)) (system_call (f - defined p) vs st) (subst (λ S. Says env m keep {A = Value} Straight S (system_call (f - defined p) vs st)) (sym (shape_system p f le r.1)) (system_says (f - defined p) (map (λ kind. None) (recorded_of (f - defined p))) vs st (λ r e. none_fits (recorded_of (f - defined p)) r.arguments)))
-          alone false e le = λ u. F.nothing
-
-          at : (b : Bool) → nat_lt f (defined p) ≡ b → Entered (shape_of env (place_of p f)) (if b then w.enter wanted f vs st else system_call_alone (f - defined p) vs st)
-          at true e =
-              let r = value_defined p f t (through_type p t f among) (below f (defined p) e) in
-              subst (λ S. Entered S (w.enter wanted f vs st)) (sym (shape_defined p f r.0 r.1)) (enters f r.0 r.1 r.2)
-          at false e = alone (nat_lt (f - defined p) 24) refl (not_below f (defined p) e)
+      candidate_says f among =
+          if_has (Entered (shape_of env (place_of p f))) (nat_lt f (defined p)) (w.enter wanted f vs st) (system_call_alone (f - defined p) vs st) (λ e.
+          let r = value_defined p f t (through_type p t f among) (below f (defined p) e) in
+          subst (λ S. Entered S (w.enter wanted f vs st)) (sym (shape_defined p f r.0 r.1)) (enters f r.0 r.1 r.2)) (λ e. if_has (Entered (shape_of env (place_of p f))) (nat_lt (f - defined p) 24) (system_call (f - defined p) vs st) (Stop (Undefined U13) []) (λ l.
+          let le = not_below f (defined p) e in
+          entered_from (shape_of env (place_of p f)) (system_call (f - defined p) vs st) (subst (λ S. Says env m keep {A = Value} Straight S (system_call (f - defined p) vs st)) (sym (shape_system p f le ((system_taken p (pointer t) f among le).1))) (system_says (f - defined p) (map (λ kind. None) (recorded_of (f - defined p))) vs st (λ r e. none_fits (recorded_of (f - defined p)) r.arguments)))) (λ l u. F.nothing))
 
       -- what a function does that comes to no system call
       hushed_says : (f : ℕ) → Contains (callees p (Through (pointer t))) f → reaches p f ≡ false → Says env m keep {A = Value} Straight Skip (called_through p w wanted f vs st)
-      hushed_says f among never = at (nat_lt f (defined p)) refl
-        where
-          at : (b : Bool) → nat_lt f (defined p) ≡ b → Says env m keep {A = Value} Straight Skip (if b then w.enter wanted f vs st else system_call_alone (f - defined p) vs st)
-          at true e =
-              let r = value_defined p f t (through_type p t f among) (below f (defined p) e) in
-              silent_says (shape_of_function p r.0) (w.enter wanted f vs st) (silent_body p f r.0 r.1 never) (enters f r.0 r.1 r.2)
-          at false e =
-              let le = not_below f (defined p) e in
-              absurd (false≢true (sym never ∙ system_reaches p f le ((system_taken p (pointer t) f among le).0)))
+      hushed_says f among never =
+          if_has (Says env m keep {A = Value} Straight Skip) (nat_lt f (defined p)) (w.enter wanted f vs st) (system_call_alone (f - defined p) vs st) (λ e.
+          let r = value_defined p f t (through_type p t f among) (below f (defined p) e) in
+          silent_says (shape_of_function p r.0) (w.enter wanted f vs st) (silent_body p f r.0 r.1 never) (enters f r.0 r.1 r.2)) (λ e.
+          let le = not_below f (defined p) e in
+          absurd (false≢true (sym never ∙ system_reaches p f le ((system_taken p (pointer t) f among le).0))))
 
       marked_through : (v : Value) (a : Answer ℕ) → callee v ≡ a → ((f : ℕ) → callee v ≡ gives f → Contains (callees p (Through (pointer t))) f) → is_marked p (Through (pointer t)) ≡ true → Says env m keep {A = Value} Straight (Call s) (with_marks marks s (then_do (answered a st) (λ f st. called_through p w wanted f vs st)))
       marked_through v (gives f) e among mark =

@@ -265,13 +265,15 @@ module _ (p : Program) (vars : List CType) (m : Objects) where
       last d e f a b c i l es vs h k = absurd h
 
   -- three arguments
-  read_three : (es : Exprs) (vs : List Value) → AreArguments p vars (more_types int (more_types char_pointer (more_types unsigned_int no_types))) es → AreConstants es vs → RequestFits (entries (Signed ∷ Unsigned ∷ []) (recorded_arguments 0 es)) (request 0 m vs)
+  read_three : (es : Exprs) (vs : List Value) → AreArguments p vars (more_types int (more_types char_pointer (more_types unsigned_int no_types))) es → AreConstants es vs → RequestFits (entries (recorded_of 0) (recorded_arguments 0 es)) (request 0 m vs)
+  unfolding table
   read_three =
-      three (λ es vs. RequestFits (entries (Signed ∷ Unsigned ∷ []) (recorded_arguments 0 es)) (request 0 m vs)) int char_pointer unsigned_int (λ fd buf n a b c i l. read_fits fd buf n a b c i l)
+      three (λ es vs. RequestFits (entries (recorded_of 0) (recorded_arguments 0 es)) (request 0 m vs)) int char_pointer unsigned_int (λ fd buf n a b c i l. read_fits fd buf n a b c i l)
 
-  write_three : (es : Exprs) (vs : List Value) → AreArguments p vars (more_types int (more_types char_pointer (more_types unsigned_int no_types))) es → AreConstants es vs → RequestFits (entries (Signed ∷ Bytes ∷ []) es) (request 1 m vs)
+  write_three : (es : Exprs) (vs : List Value) → AreArguments p vars (more_types int (more_types char_pointer (more_types unsigned_int no_types))) es → AreConstants es vs → RequestFits (entries (recorded_of 1) es) (request 1 m vs)
+  unfolding table
   write_three =
-      three (λ es vs. RequestFits (entries (Signed ∷ Bytes ∷ []) es) (request 1 m vs)) int char_pointer unsigned_int (λ fd buf n a b c i l. write_fits fd a b c i)
+      three (λ es vs. RequestFits (entries (recorded_of 1) es) (request 1 m vs)) int char_pointer unsigned_int (λ fd buf n a b c i l. write_fits fd a b c i)
 
 -- the kinds in the table of system calls are those of the prototypes' types, but for read, whose buffer is not recorded
 abbrev row_is : Row → CType → Bool
@@ -285,54 +287,30 @@ rows_are a ts = true
 abbrev no_row : Row
 no_row = row [] [] Void
 
-rows_right : rows_are (drop 2 table) (drop 2 sys_types) ≡ true
-unfolding table sys_types
-rows_right = refl
-
 row_at : (rs : List Row) (all : List CType) (x : ℕ) (t : CType) (ts : CTypes) → rows_are rs all ≡ true → slice_get all x ≡ Some (function t ts) → kinds_are ((slice_index_or rs x no_row).recorded) ts ≡ true
 row_at [] all x t ts h e = refl
 row_at (r ∷ rs) [] x t ts h e = absurd (no_some (function t ts) e)
 row_at (r ∷ rs) (u ∷ all) zero t ts h e = ap (λ u. row_is r u) (sym (same_some u (function t ts) e)) ∙ and_left (row_is r u) (rows_are rs all) h
 row_at (r ∷ rs) (u ∷ all) (suc x) t ts h e = row_at rs all x t ts (and_right (row_is r u) (rows_are rs all) h) e
 
-got_after : {X : Type 0} (xs : List X) (x : ℕ) → slice_get (drop 2 xs) x ≡ slice_get xs (suc (suc x))
-got_after (a ∷ []) x = refl
-got_after xs x = refl
-
-index_after : {X : Type 0} (xs : List X) (d : X) (x : ℕ) → slice_index_or (drop 2 xs) x d ≡ slice_index_or xs (suc (suc x)) d
-index_after (a ∷ []) d x = refl
-index_after xs d x = refl
-
 kinds_right : (x : ℕ) (t : CType) (ts : CTypes) → slice_get sys_types (suc (suc x)) ≡ Some (function t ts) → kinds_are (recorded_of (suc (suc x))) ts ≡ true
-kinds_right x t ts e =
-    subst (λ (r : Row). kinds_are r.recorded ts ≡ true) (index_after table no_row x) (row_at (drop 2 table) (drop 2 sys_types) x t ts rows_right (got_after sys_types x ∙ e))
-
-abbrev params_of : Option CType → CTypes
-params_of (Some (function t ts)) = ts
-params_of _ = no_types
+unfolding table sys_types
+kinds_right x t ts e = row_at (drop 2 table) (drop 2 sys_types) x t ts refl e
 
 read_types : (t : CType) (ts : CTypes) → slice_get sys_types 0 ≡ Some (function t ts) → more_types int (more_types char_pointer (more_types unsigned_int no_types)) ≡ ts
 unfolding sys_types
-read_types t ts e = ap params_of e
+read_types t ts e = cc
 
 write_types : (t : CType) (ts : CTypes) → slice_get sys_types 1 ≡ Some (function t ts) → more_types int (more_types char_pointer (more_types unsigned_int no_types)) ≡ ts
 unfolding sys_types
-write_types t ts e = ap params_of e
-
-read_kinds : Signed ∷ Unsigned ∷ [] ≡ recorded_of 0
-unfolding table
-read_kinds = refl
-
-write_kinds : Signed ∷ Bytes ∷ [] ≡ recorded_of 1
-unfolding table
-write_kinds = refl
+write_types t ts e = cc
 
 -- what a direct system call asks for fits the pattern of the call
 pub request_fits : (p : Program) (vars : List CType) (m : Objects) (x : ℕ) (t : CType) (ts : CTypes) (es : Exprs) (vs : List Value) → slice_get sys_types x ≡ Some (function t ts) → AreArguments p vars ts es → AreConstants es vs → (q : Request) → request x m vs ≡ gives q → FitArguments (pattern_of x es) q.arguments
 request_fits p vars m x t ts es vs e h k q is = subst (λ a. RequestFits p vars m (pattern_of x es) a) is (at x e)
   where
     at : (x : ℕ) → slice_get sys_types x ≡ Some (function t ts) → RequestFits p vars m (pattern_of x es) (request x m vs)
-    at zero e = subst (λ kinds. RequestFits p vars m (entries kinds (recorded_arguments 0 es)) (request 0 m vs)) read_kinds (read_three p vars m es vs (subst (λ ts. AreArguments p vars ts es) (sym (read_types t ts e)) h) k)
-    at (suc zero) e = subst (λ kinds. RequestFits p vars m (entries kinds es) (request 1 m vs)) write_kinds (write_three p vars m es vs (subst (λ ts. AreArguments p vars ts es) (sym (write_types t ts e)) h) k)
+    at zero e = (read_three p vars m es vs (subst (λ ts. AreArguments p vars ts es) (sym (read_types t ts e)) h) k)
+    at (suc zero) e = (write_three p vars m es vs (subst (λ ts. AreArguments p vars ts es) (sym (write_types t ts e)) h) k)
     at (suc (suc x)) e =
         if_then {A = List Arg} {B = Request} (λ rest. FitArguments (pattern_of (suc (suc x)) es) rest) (λ q. FitArguments (pattern_of (suc (suc x)) es) q.arguments) (arguments m vs) _ (args_fit p vars m (recorded_of (suc (suc x))) ts es vs (kinds_right x t ts e) h k) (λ rest j. j)

@@ -33,8 +33,7 @@ index_right (x ∷ xs) ys d k =
 
 -- where a member of a rising list stands
 less_if : (a x : ℕ) (b : Bool) (ts : List ℕ) → x ≤ a → filter (λ y. nat_lt y x) ts ≡ [] → filter (λ y. nat_lt y x) (if b then a ∷ ts else ts) ≡ []
-less_if a x true ts le rest =
-    ap (λ b. if b then a ∷ filter (λ y. nat_lt y x) ts else filter (λ y. nat_lt y x) ts) (isnt_below a x le) ∙ rest
+less_if a x true ts le rest = rw (isnt_below a x le) rest
 less_if a x false ts le rest = rest
 
 none_less : (a n : ℕ) (test : ℕ → Bool) (x : ℕ) → x ≤ a → filter (λ y. nat_lt y x) (filter test (range_with_len a n)) ≡ []
@@ -42,21 +41,13 @@ none_less a zero test x le = refl
 none_less a (suc n) test x le =
     less_if a x (test a) (filter test (range_with_len (a + 1) n)) le (none_less (a + 1) n test x (omega (arith, le)))
 
-index_first : (f : ℕ → Shape) (a x : ℕ) (rest less : List ℕ) → a ≡ x → nat_lt a x ≡ false → less ≡ [] → slice_index_or (f a ∷ map f rest) (length (if nat_lt a x then a ∷ less else less)) Skip ≡ f x
-index_first f a x rest less is e none =
-    ap (λ b. slice_index_or (f a ∷ map f rest) (length (if b then a ∷ less else less)) Skip) e ∙ (ap (λ less. slice_index_or (f a ∷ map f rest) (length less) Skip) none ∙ ap f is)
-
-index_later : (f : ℕ → Shape) (a x : ℕ) (rest less : List ℕ) → nat_lt a x ≡ true → slice_index_or (map f rest) (length less) Skip ≡ f x → slice_index_or (f a ∷ map f rest) (length (if nat_lt a x then a ∷ less else less)) Skip ≡ f x
-index_later f a x rest less e k =
-    ap (λ b. slice_index_or (f a ∷ map f rest) (length (if b then a ∷ less else less)) Skip) e ∙ k
-
 index_at : (f : ℕ → Shape) (a x n : ℕ) (test : ℕ → Bool) (b : Bool) → Contains (if b then a ∷ filter test (range_with_len (a + 1) n) else filter test (range_with_len (a + 1) n)) x → (Contains (filter test (range_with_len (a + 1) n)) x → slice_index_or (map f (filter test (range_with_len (a + 1) n))) (length (filter (λ y. nat_lt y x) (filter test (range_with_len (a + 1) n)))) Skip ≡ f x) → slice_index_or (map f (if b then a ∷ filter test (range_with_len (a + 1) n) else filter test (range_with_len (a + 1) n))) (length (filter (λ y. nat_lt y x) (if b then a ∷ filter test (range_with_len (a + 1) n) else filter test (range_with_len (a + 1) n)))) Skip ≡ f x
 index_at f a x n test true h rest =
     let ts = filter test (range_with_len (a + 1) n) in
     let less = filter (λ y. nat_lt y x) ts in
     elim (cases a ts x h) as (λ k. slice_index_or (f a ∷ map f ts) (length (if nat_lt a x then a ∷ less else less)) Skip ≡ f x) [
-      | inl is ↦ index_first f a x ts less is (isnt_below a x (omega (arith, is))) (none_less (a + 1) n test x (omega (arith, is)))
-      | inr k ↦ (let r = from_range (a + 1) n x ((from_filter test (range_with_len (a + 1) n) x k).0) in index_later f a x ts less (is_below a x (omega (arith, r.0))) (rest k))
+      | inl is ↦ rw (isnt_below a x (omega (arith, is)), none_less (a + 1) n test x (omega (arith, is))) (ap f is)
+      | inr k ↦ (let r = from_range (a + 1) n x ((from_filter test (range_with_len (a + 1) n) x k).0) in rw (is_below a x (omega (arith, r.0))) (rest k))
     ]
 index_at f a x n test false h rest = rest h
 

@@ -8,11 +8,11 @@ use Rattle.c_meaning.specs.Meaning.{either, tested}
 use Rattle.c_meaning.specs.Pointers.{test}
 use Rattle.c_meaning.specs.Results.{State, Result, Go, Stop, after, then_do, spend_at, answered, remembered, Exit, on, broken, continued, returned, on_exit}
 use Rattle.std.specs.Prelude.{ℕ, zero, suc}
-use Rattle.c_shapes.specs.Shape.{Shape, Parts, End, Part, Shapes, Leave, goes_on, breaks, continues, returns}
+use Rattle.c_shapes.specs.Shape.{Shape, Skip, Alt, Parts, End, Part, Shapes, Leave, goes_on, breaks, continues, returns}
 use Rattle.c_shapes.specs.Words.{Marks, Whole, Falls, Front}
 use Rattle.c_shapes.specs.Words as F
 use Rattle.c_shapes.specs.ShapeOf.{seq, seq_two, alt}
-use Rattle.alarm_laws.proofs.Words.{Stands, here, inside, beyond, one_falls, one_stands, seq_whole, seq_front, left_whole, right_whole, left_front, right_front}
+use Rattle.alarm_laws.proofs.Words.{Stands, here, inside, beyond, one_falls, one_stands, seq_whole, seq_front}
 
 -- of each event, what a language reads
 abbrev pub told : (Event → List Event) → List Event → List Event
@@ -131,12 +131,14 @@ module _ (env : Shapes) (m : Marks) (keep : Event → List Event) where
       change_tells keep by (Falls env m ps) (Whole env m (seq ps)) (Stands env m ps) (Front env m (seq ps)) r (λ x t u k. seq_whole env m ps k) (λ t u k. seq_front env m ps k) h
 
   pub left_says : {A : Type 0} (by : A → Leave) (S T : Shape) (r : Result A) → Says {A = A} by S r → Says {A = A} by (alt S T) r
+  left_says by Skip Skip r h = h
   left_says by S T r h =
-      change_tells keep by (Whole env m S) (Whole env m (alt S T)) (Front env m S) (Front env m (alt S T)) r (λ x t u k. left_whole env m S T k) (λ t u k. left_front env m S T k) h
+      change_tells keep by (Whole env m S) (Whole env m (Alt S T)) (Front env m S) (Front env m (Alt S T)) r (λ x t u k. F.left k) (λ t u k. F.in_left k) h
 
   pub right_says : {A : Type 0} (by : A → Leave) (S T : Shape) (r : Result A) → Says {A = A} by T r → Says {A = A} by (alt S T) r
+  right_says by Skip Skip r h = h
   right_says by S T r h =
-      change_tells keep by (Whole env m T) (Whole env m (alt S T)) (Front env m T) (Front env m (alt S T)) r (λ x t u k. right_whole env m S T k) (λ t u k. right_front env m S T k) h
+      change_tells keep by (Whole env m T) (Whole env m (Alt S T)) (Front env m T) (Front env m (Alt S T)) r (λ x t u k. F.right k) (λ t u k. F.in_right k) h
 
   -- a part alone
   alone : {S : Shape} (x : Leave) {t u : List Event} → Whole env m S x t u → Falls env m (Part S End) x t u

@@ -20,7 +20,7 @@ use Rattle.c_meaning.specs.Results.{State, with_memory, Result, Go, then_do, rem
 use Rattle.c_meaning.specs.Runs.{world}
 use Rattle.c_meaning_laws.specs.TypedResults.{StandsIn}
 use Rattle.c_meaning_laws.proofs.Standing.{left_part, right_part}
-use Rattle.alarm_laws.proofs.Lists.{none_in, below, not_below}
+use Rattle.alarm_laws.proofs.Lists.{none_in, below, not_below, if_has}
 use Rattle.alarm_laws.proofs.Words.{Stands, here, stands_falls, out_of, cases_whole}
 use Rattle.alarm_laws.proofs.Says.{Gives, then_gives, tested_gives, Tells, left_by, Straight, change_tells, after_none, remembered_then, either_tells, then_left, Says, SaysAll, seq_says, left_says, right_says, part_alone, part_then, then_quiet, tested_says, choice_says, exit_then}
 use Rattle.alarm_laws.proofs.Loops.{do_says, selected_within}
@@ -127,17 +127,12 @@ module _ (p : Program) (n : ℕ) (right : IsProgram p n) (marks : Marks) (m : F.
 
   -- a switch goes on at a group, or past all of them where none has the label default
   switch_says : (v : Value) (gs : Groups) (st : State) → (selected v gs < count_groups gs → Picking gs (exec_from p (world p marks k) marks fr (selected v gs) gs st)) → Leaving (Cases (shapes_of_groups p gs) (has_default gs)) (then_do (exec_from p (world p marks k) marks fr (selected v gs) gs st) (λ x st. Go (out_of_switch x) st []))
-  switch_says v gs st h = at (nat_lt (selected v gs) (count_groups gs)) refl
+  switch_says v gs st h =
+      if_has {A = Bool} (λ x. Leaving (Cases (shapes_of_groups p gs) (has_default gs)) (then_do (exec_from p (world p marks k) marks fr (selected v gs) gs st) (λ x st. Go (out_of_switch x) st []))) (nat_lt (selected v gs) (count_groups gs)) true false (λ e. switch_left gs (has_default gs) _ (h (below (selected v gs) (count_groups gs) e))) (λ e. none_left gs (selected v gs) st (has_default gs) (none (has_default gs) refl (not_below (selected v gs) (count_groups gs) e)) (not_below (selected v gs) (count_groups gs) e))
     where
       none : (b : Bool) → has_default gs ≡ b → count_groups gs ≤ selected v gs → has_default gs ≡ false
       none true e le = let lt = selected_within v gs e in absurd (omega (arith, lt, le))
       none false e le = e
-
-      at : (b : Bool) → nat_lt (selected v gs) (count_groups gs) ≡ b → Leaving (Cases (shapes_of_groups p gs) (has_default gs)) (then_do (exec_from p (world p marks k) marks fr (selected v gs) gs st) (λ x st. Go (out_of_switch x) st []))
-      at true e = switch_left gs (has_default gs) _ (h (below (selected v gs) (count_groups gs) e))
-      at false e =
-          let le = not_below (selected v gs) (count_groups gs) e in
-          none_left gs (selected v gs) st (has_default gs) (none (has_default gs) refl le) le
 
   mutual
     pub stmt_says : (r : CType) (b c : Bool) (s : Stmt) → IsStmt p fr.types r b c s → StandsIn p (mentions_of_stmt s) → (st : State) → Good fr st → Leaving (shape_of_stmt p s) (exec p (world p marks k) marks fr s st)

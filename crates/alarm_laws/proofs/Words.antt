@@ -4,7 +4,7 @@ use Rattle.dm_base.specs.declared.event.Event.{Event}
 use Rattle.c_shapes.specs.Shape.{Shape, Skip, Loop, Do, Cases, Parts, End, Part, Shapes, Leave, goes_on, breaks, continues, returns, IsNext, IsAway}
 use Rattle.c_shapes.specs.Words.{Marks, Whole, Rounds, Again, Falls, Picks, Front, FrontFalls}
 use Rattle.c_shapes.specs.Words as F
-use Rattle.c_shapes.specs.ShapeOf.{before_parts, without_skips, in_turn, seq, alt}
+use Rattle.c_shapes.specs.ShapeOf.{before_parts, without_skips, in_turn, seq}
 use Rattle.std.specs.Prelude.{Bool}
 
 -- what stands in t before u is read from parts in turn, along a path that may stop anywhere
@@ -93,23 +93,6 @@ module _ (env : Shapes) (m : Marks) where
   pub seq_front : (ps : Parts) {t u : List Event} → Stands env m ps t u → Front env m (seq ps) t u
   seq_front ps h = turn_stands (without_skips ps) (stands_skips h)
 
-  -- one of two parts
-  pub left_whole : (S T : Shape) {x : Leave} {t u : List Event} → Whole env m S x t u → Whole env m (alt S T) x t u
-  left_whole Skip Skip h = h
-  left_whole S T h = F.left h
-
-  pub right_whole : (S T : Shape) {x : Leave} {t u : List Event} → Whole env m T x t u → Whole env m (alt S T) x t u
-  right_whole Skip Skip h = h
-  right_whole S T h = F.right h
-
-  pub left_front : (S T : Shape) {t u : List Event} → Front env m S t u → Front env m (alt S T) t u
-  left_front Skip Skip h = h
-  left_front S T h = F.in_left h
-
-  pub right_front : (S T : Shape) {t u : List Event} → Front env m T t u → Front env m (alt S T) t u
-  right_front Skip Skip h = h
-  right_front S T h = F.in_right h
-
   -- a round before those of a loop
   round_before : {C B P : Shape} {y : Leave} {t u v w a : List Event} → Whole env m C goes_on t u → IsNext y → Whole env m B y u v → Whole env m P goes_on v w → Rounds env m C B P w a → Rounds env m C B P t a
   round_before c n b p F.none = F.round F.none c n b p
@@ -135,15 +118,11 @@ module _ (env : Shapes) (m : Marks) where
     next : IsNext exit
     last : Whole env m B exit between v
 
-  once : {B C : Shape} {y : Leave} {t u : List Event} → IsNext y → Whole env m B y t u → Turned B C t u
-  once {y = y} {t = t} n b = record { exit = y; between = t; rounds = F.first; next = n; last = b }
-
-  more : {B C : Shape} {z : Leave} {t u v w : List Event} → Turned B C t v → Whole env m C goes_on v u → IsNext z → Whole env m B z u w → Turned B C t w
-  more {z = z} {u = u} q c n b = record { exit = z; between = u; rounds = F.again q.rounds q.next q.last c; next = n; last = b }
-
   turned : {B C : Shape} {y : Leave} {t u v : List Event} → IsNext y → Whole env m B y t u → Rounds env m C B Skip u v → Turned B C t v
-  turned n b F.none = once n b
-  turned {B = B} {C = C} {t = t} n b (F.round r c k d p) = subst (λ z. Turned B C t z) (whole_skip p).1 (more (turned n b r) c k d)
+  turned {y = y} {t = t} n b F.none = record { exit = y; between = t; rounds = F.first; next = n; last = b }
+  turned {B = B} {C = C} {t = t} n b (F.round r c k d p) =
+      let q = turned n b r in
+      subst (λ z. Turned B C t z) (whole_skip p).1 (record { exit = _; between = _; rounds = F.again q.rounds q.next q.last c; next = k; last = d })
 
   pub do_whole : {B C : Shape} {x y : Leave} {t u v : List Event} → IsNext y → Whole env m B y t u → Whole env m (Loop C B Skip) x u v → Whole env m (Do B C) x t v
   do_whole n b (F.loop_end r h) = let q = turned n b r in F.do_end q.rounds q.next q.last h
