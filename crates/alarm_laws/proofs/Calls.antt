@@ -142,7 +142,7 @@ module _ (p : Program) (n : ℕ) (right : IsProgram p n) (marks : Marks) (m : F.
       where
         at : (b : Bool) → nat_lt (f - defined p) 24 ≡ b → Says env m keep {A = Value} Straight (if b then system_shape (f - defined p) (pattern_of (f - defined p) es) else Skip) (if b then system_call (f - defined p) vs st else (if nat_eq (f - defined p) 24 then null_call Pre vs st else (if nat_eq (f - defined p) 25 then null_call Post vs st else Stop (Undefined U13) [])))
         at true e =
-            system_says (f - defined p) (pattern_of (f - defined p) es) vs st (request_fits p vars st.memory (f - defined p) t ts es vs (called_system p f (function t ts) type (not_below f (defined p) ge) (below (f - defined p) 24 e)) args told_of)
+            system_says (f - defined p) (pattern_of (f - defined p) es) vs st (request_fits p n right vars st.memory (f - defined p) t ts es vs (called_system p f (function t ts) type (not_below f (defined p) ge) (below (f - defined p) 24 e)) args told_of)
         at false e =
             if_has (Says env m keep {A = Value} Straight Skip) (nat_eq (f - defined p) 24) _ _ (λ e. null_says Pre (ties.null_pre s f k (number_is f 24 (not_below f (defined p) ge) e)) vs st) (λ e.
             if_has (Says env m keep {A = Value} Straight Skip) (nat_eq (f - defined p) 25) _ _ (λ e. null_says Post (ties.null_post s f k (number_is f 25 (not_below f (defined p) ge) e)) vs st) (λ e u. F.nothing))

@@ -27,6 +27,10 @@ use Rattle.c_tree.specs.Operands.{FitsUnary, IsPromoted}
 use Rattle.c_tree.specs.Operators.{Answer, gives, undefined, and_then, truth, convert, unary, binary, fits_int, fitting, settle, low_bits}
 use Rattle.c_tree.specs.OperatorTypes.{IsAnswer, IsGiven}
 use Rattle.c_tree.specs.Kinds.{IsConstant}
+use Rattle.c_tree.specs.Program.{IsProgram}
+use Rattle.c_tree.specs.Kinds.{static_objects}
+use Rattle.c_meaning_laws.specs.StoreTyping.{HasKind}
+use Rattle.c_meaning_laws.proofs.Steps.{Right, constant_of, of_constant, operated_right}
 use Rattle.c_tree.specs.Typed.{IsValue, AreArguments}
 use Rattle.c_tree.specs.Constants.{given, given_of, given_of_two, constant_value, number_in, entry, entries, recorded_arguments, pattern_of}
 use Rattle.c_tree.proofs.OperatorLemmas.{converted, arithmetic_fits, below_32}
@@ -115,36 +119,12 @@ module _ (p : Program) (w : World) (marks : Marks) (fr : Frame) where
       two_is a b r.0 r.1 y st (binary op) (constant_is true a r.0 st r.2) (constant_is true b r.1 st r.3) r.4
   constant_is wanted _ y st h = absurd (no_some y h)
 
-fitting_gives : (b : Bool) (z : ℤ) (kind : ℕ) → fits_int z ≡ b → IfGives (IsConstant int) (fitting b z kind)
-fitting_gives true z kind e = (refl, fits z e)
-fitting_gives false z kind e = tt
+unary_integer : (op : UnOp) (t u : CType) → FitsUnary op t u → (k : IntType) × (t ≡ integer k)
+unary_integer Not t u h = (i.Int, h.0)
+unary_integer Minus t u h = (h.0, h.1)
+unary_integer op t u h = (h.0, h.1)
 
-truth_gives : (t : CType) (b : Bool) → t ≡ int → IfGives (IsConstant t) (truth b)
-truth_gives t true h = (h, fits (pos 1) refl)
-truth_gives t false h = (h, fits (pos 0) refl)
-
-abbrev FitsSign : CType → CType → Type 0
-FitsSign t u = (j : IntType) × (t ≡ integer j) × (u ≡ integer j) × IsPromoted j
-
-to_int : (t u : CType) (k : IntType) (a : Answer Value) → FitsSign t u → u ≡ integer k → IfGives (IsConstant (integer k)) a → IfGives (IsConstant t) a
-to_int t u k a h e = subst (λ t. IfGives (IsConstant t) a) (sym (h.1 ∙ (sym h.2 ∙ e)))
-
-unary_gives : (op : UnOp) (t u : CType) (x : Value) → FitsUnary op t u → IsConstant u x → IfGives (IsConstant t) (unary op x)
-unary_gives op t u Indeterminate h k = absurd k
-unary_gives Not t u (Int z) h k = truth_gives t (int_eq z (pos 0)) h.0
-unary_gives Not t u (Uint n) h k = truth_gives t (int_eq (pos n) (pos 0)) h.0
-unary_gives Not t u (Char z) h k = truth_gives t (int_eq z (pos 0)) h.0
-unary_gives Not t u (Uchar n) h k = truth_gives t (int_eq (pos n) (pos 0)) h.0
-unary_gives Minus t u (Int z) h k = to_int t u i.Int (settle i.Int (neg_ℤ z)) h k.0 (fitting_gives (fits_int (neg_ℤ z)) (neg_ℤ z) 1 refl)
-unary_gives Minus t u (Uint n) h k = to_int t u i.Uint (settle i.Uint (neg_ℤ (pos n))) h k.0 (refl, below_32 (neg_ℤ (pos n)))
-unary_gives Complement t u (Int z) h k = to_int t u i.Int (settle i.Int (neg_ℤ z -ℤ pos 1)) h k.0 (fitting_gives (fits_int (neg_ℤ z -ℤ pos 1)) (neg_ℤ z -ℤ pos 1) 1 refl)
-unary_gives Complement t u (Uint n) h k = to_int t u i.Uint (settle i.Uint (neg_ℤ (pos n) -ℤ pos 1)) h k.0 (refl, below_32 (neg_ℤ (pos n) -ℤ pos 1))
-unary_gives Not t u Null h k = tt
-unary_gives op t u (Func f) h k = absurd k
-unary_gives op t u (At q) h k = absurd k
-unary_gives op t u x h k = tt
-
-module _ (p : Program) (vars : List CType) where
+module _ (p : Program) (n : ℕ) (right : IsProgram p n) (vars : List CType) (m : Objects) where
   constant_typed : (e : Expr) (y : Value) → IsValue p vars e → constant_value e ≡ Some y → IsConstant (type_of e) y
   constant_typed (constant t x) y h k = subst (λ v. IsConstant t v) (same_some x y k) h
   constant_typed (conversion t to a) y h k =
@@ -152,7 +132,10 @@ module _ (p : Program) (vars : List CType) where
       subst (λ t. IsConstant t y) (sym h.0) (subst (λ a. IsGiven (integer to) a) r.2 (converted to (type_of a) (h.1.0) r.0 (h.1.1) (constant_typed a r.0 h.2 r.1)))
   constant_typed (unary_operation t op a) y h k =
       let r = given_from (constant_value a) (unary op) y k in
-      subst (λ a. IfGives (IsConstant t) a) r.2 (unary_gives op t (type_of a) r.0 h.0 (constant_typed a r.0 h.1 r.1))
+      let o = static_objects p in
+      let kind = unary_integer op t (type_of a) h.0 in
+      let typed : HasKind p o t y = subst (Right {A = Value} (HasKind p o t)) (operated_is op m r.0 y r.2) (operated_right p n right o op t (type_of a) r.0 m h.0 (of_constant p n right o (type_of a) r.0 (constant_typed a r.0 h.1 r.1))) in
+      subst (λ t. IsConstant t y) (sym kind.1) (constant_of p n right o kind.0 y (subst (λ t. HasKind p o t y) kind.1 typed))
   constant_typed (arithmetic t op a b) y h k =
       let r = given_from_two (constant_value a) (constant_value b) (binary op) y k in
       subst (λ a. IsAnswer t a) r.4 (arithmetic_fits op t (type_of a) (type_of b) r.0 r.1 h.0 (constant_typed a r.0 h.1 r.2) (constant_typed b r.1 h.2 r.3))
@@ -218,9 +201,9 @@ abbrev kinds_are : List ArgKind → CTypes → Bool
 kinds_are (kind ∷ kinds) (more_types t ts) = kind_is kind t && kinds_are kinds ts
 kinds_are a ts = true
 
-module _ (p : Program) (vars : List CType) (m : Objects) where
+module _ (p : Program) (n : ℕ) (right : IsProgram p n) (vars : List CType) (m : Objects) where
   is_of : (e : Expr) (t : CType) (v : Value) → type_of e ≡ t → IsValue p vars e → ((y : Value) → constant_value e ≡ Some y → v ≡ y) → IsOf (constant_value e) t v
-  is_of e t v h k is = λ y q. (is y q, subst (λ t. IsConstant t y) h (constant_typed p vars e y k q))
+  is_of e t v h k is = λ y q. (is y q, subst (λ t. IsConstant t y) h (constant_typed p n right vars m e y k q))
 
   args_fit : (kinds : List ArgKind) (ts : CTypes) (es : Exprs) (vs : List Value) → kinds_are kinds ts ≡ true → AreArguments p vars ts es → AreConstants es vs → IfGives (λ rest. FitArguments (entries kinds es) rest) (arguments m vs)
   args_fit [] ts es vs r h k = if_any {A = List Arg} (λ rest. Unit {0}) (arguments m vs) (λ rest. tt)
@@ -306,11 +289,11 @@ unfolding sys_types
 write_types t ts e = cc
 
 -- what a direct system call asks for fits the pattern of the call
-pub request_fits : (p : Program) (vars : List CType) (m : Objects) (x : ℕ) (t : CType) (ts : CTypes) (es : Exprs) (vs : List Value) → slice_get sys_types x ≡ Some (function t ts) → AreArguments p vars ts es → AreConstants es vs → (q : Request) → request x m vs ≡ gives q → FitArguments (pattern_of x es) q.arguments
-request_fits p vars m x t ts es vs e h k q is = subst (λ a. RequestFits p vars m (pattern_of x es) a) is (at x e)
+pub request_fits : (p : Program) (n : ℕ) (right : IsProgram p n) (vars : List CType) (m : Objects) (x : ℕ) (t : CType) (ts : CTypes) (es : Exprs) (vs : List Value) → slice_get sys_types x ≡ Some (function t ts) → AreArguments p vars ts es → AreConstants es vs → (q : Request) → request x m vs ≡ gives q → FitArguments (pattern_of x es) q.arguments
+request_fits p n right vars m x t ts es vs e h k q is = subst (λ a. RequestFits p n right vars m (pattern_of x es) a) is (at x e)
   where
-    at : (x : ℕ) → slice_get sys_types x ≡ Some (function t ts) → RequestFits p vars m (pattern_of x es) (request x m vs)
-    at zero e = (read_three p vars m es vs (subst (λ ts. AreArguments p vars ts es) (sym (read_types t ts e)) h) k)
-    at (suc zero) e = (write_three p vars m es vs (subst (λ ts. AreArguments p vars ts es) (sym (write_types t ts e)) h) k)
+    at : (x : ℕ) → slice_get sys_types x ≡ Some (function t ts) → RequestFits p n right vars m (pattern_of x es) (request x m vs)
+    at zero e = (read_three p n right vars m es vs (subst (λ ts. AreArguments p vars ts es) (sym (read_types t ts e)) h) k)
+    at (suc zero) e = (write_three p n right vars m es vs (subst (λ ts. AreArguments p vars ts es) (sym (write_types t ts e)) h) k)
     at (suc (suc x)) e =
-        if_then {A = List Arg} {B = Request} (λ rest. FitArguments (pattern_of (suc (suc x)) es) rest) (λ q. FitArguments (pattern_of (suc (suc x)) es) q.arguments) (arguments m vs) _ (args_fit p vars m (recorded_of (suc (suc x))) ts es vs (kinds_right x t ts e) h k) (λ rest j. j)
+        if_then {A = List Arg} {B = Request} (λ rest. FitArguments (pattern_of (suc (suc x)) es) rest) (λ q. FitArguments (pattern_of (suc (suc x)) es) q.arguments) (arguments m vs) _ (args_fit p n right vars m (recorded_of (suc (suc x))) ts es vs (kinds_right x t ts e) h k) (λ rest j. j)

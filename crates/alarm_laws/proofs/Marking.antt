@@ -13,6 +13,7 @@ use Rattle.c_meaning.specs.NullCalls.{AreNullCalls}
 use Rattle.c_meaning.proofs.ErasedParts.{null_calls_change_nothing}
 use Rattle.c_meaning.proofs.Plain.{run_plain}
 use Rattle.alarm_laws.specs.MarkedRuns.{null_calls_of, MarkedRunsDifferInNullCalls, ErasedMarkedRunsAreRuns}
+use Rattle.alarm_laws.proofs.Lists.{if_has}
 use Rattle.alarm_laws.proofs.Says.{told}
 use Rattle.alarm_laws.proofs.Guards.{IsTied}
 use Rattle.alarm_laws.proofs.NullFree.{calls_others}
@@ -63,11 +64,8 @@ plain_tied p = record {
 
 -- marks are null calls
 are_null_calls : (p : Program) → AreNullCalls (null_calls_of p)
-are_null_calls p s = by (marked p s)
-  where
-    by : (b : Bool) → (erase ((marks_if s b).0) ≡ []) × (erase ((marks_if s b).1) ≡ [])
-    by true = (refl, refl)
-    by false = (refl, refl)
+are_null_calls p s =
+    if_has (λ (x : List Event × List Event). (erase x.0 ≡ []) × (erase x.1 ≡ [])) (marked p s) (Pre s ∷ [], Post s ∷ []) ([], []) (λ e. (refl, refl)) (λ e. (refl, refl))
 
 pub marked_runs_differ : MarkedRunsDifferInNullCalls
 marked_runs_differ p records turns = null_calls_change_nothing p (null_calls_of p) (are_null_calls p) records turns

@@ -29,22 +29,13 @@ depth_cut (suc k) (Post s ∷ t) = let h = depth_cut k t in omega (arith, h)
 depth_cut k t = omega arith
 
 module _ (p : Program) (n : ℕ) (right : IsProgram p n) where
-  dyck_same : AreEqual (Dyck p) (Reads which.Dyck (graph_of_program p))
-  dyck_same = graphs.dyck (names_of_functions p) (shapes_of p) (closed p n right) (many_names p)
-
-  stack_same : AreEqual (Stack p) (Reads which.Stack (graph_of_program p))
-  stack_same = graphs.stack (names_of_functions p) (shapes_of p) (closed p n right) (many_names p)
-
-  callgraph_same : AreEqual (Callgraph p) (Reads which.Callgraph (graph_of_program p))
-  callgraph_same = graphs.callgraph (names_of_functions p) (shapes_of p) (closed p n right) (many_names p)
-
   dyck_at : (t : List Event) (k : ℕ) → Dyck p t → Reads which.Dyck (graph_of_program p) (take k t)
-  dyck_at t k h = dyck_same.into (take k t) (dyck_front (shapes_of p) (take k t) (drop k t) (subst (Dyck p) (sym (take-append-drop k t)) h))
+  dyck_at t k h = (graphs.dyck (names_of_functions p) (shapes_of p) (closed p n right) (many_names p)).into (take k t) (dyck_front (shapes_of p) (take k t) (drop k t) (subst (Dyck p) (sym (take-append-drop k t)) h))
 
   both : (t : List Event) (bound : ℕ) → Stack p t → Callgraph p t → IsAcceptedByBoth (graph_of_program p) bound t
   both t bound h l = record {
-    callgraph = (refl, record { kept = λ k le. callgraph_same.into (take k t) (callgraph_front (shapes_of p) (take k t) (drop k t) (subst (Callgraph p) (sym (take-append-drop k t)) l)) });
-    stack = (refl, record { kept = λ k le. stack_same.into (take k t) (stack_front (shapes_of p) (take k t) (drop k t) (subst (Stack p) (sym (take-append-drop k t)) h)) });
+    callgraph = (refl, record { kept = λ k le. (graphs.callgraph (names_of_functions p) (shapes_of p) (closed p n right) (many_names p)).into (take k t) (callgraph_front (shapes_of p) (take k t) (drop k t) (subst (Callgraph p) (sym (take-append-drop k t)) l)) });
+    stack = (refl, record { kept = λ k le. (graphs.stack (names_of_functions p) (shapes_of p) (closed p n right) (many_names p)).into (take k t) (stack_front (shapes_of p) (take k t) (drop k t) (subst (Stack p) (sym (take-append-drop k t)) h)) });
   }
 
   all : (t : List Event) (bound : ℕ) → Dyck p t → IsAcceptedByAll (graph_of_program p) bound t

@@ -20,20 +20,11 @@ use Rattle.alarm_laws.proofs.Marking.{every, system_calls, told_every, told_syst
 use Rattle.alarm_laws.proofs.Programs.{run_says}
 use Rattle.alarm_laws.proofs.TypedRuns.{IsGood, ArePassed, typed_guard, none_recorded, null_calls_recorded}
 
--- runs that keep something by which each function that is called through a pointer is a candidate
-pub guarded_runs : (p : Program) (n : ℕ) (right : IsProgram p n) (Good : Frame → State → Type 0) (Passed : CTypes → List Value → State → Type 0) → IsGuarded p no_marks Good Passed → RunsAreWords p
-guarded_runs p n right Good Passed guard records turns =
-    let h : Stack p (run p records turns).trace = subst (λ t. Words no_brackets (shapes_of p) t) (told_system_calls (run p records turns).trace) (run_says p n right no_marks no_brackets system_calls (plain_tied p) Good Passed guard records turns) in
+pub runs_raise_none : RunsRaiseNoAlarm
+runs_raise_none p n right records turns =
+    let h : Stack p (run p records turns).trace = subst (λ t. Words no_brackets (shapes_of p) t) (told_system_calls (run p records turns).trace) (run_says p n right no_marks no_brackets system_calls (plain_tied p) (IsGood p n right no_marks none_recorded) (ArePassed p n right no_marks none_recorded) (typed_guard p n right no_marks none_recorded) records turns) in
     (h, walked (shapes_of p) p.main (erase (run p records turns).trace) h)
 
-pub guarded_marked_runs : (p : Program) (n : ℕ) (right : IsProgram p n) → MakesNoNullCall p → (Good : Frame → State → Type 0) (Passed : CTypes → List Value → State → Type 0) → IsGuarded p (null_calls_of p) Good Passed → MarkedRunsAreWords p
-guarded_marked_runs p n right free Good Passed guard records turns =
-    subst (λ t. Words brackets (shapes_of p) t) (told_every (marked_run p records turns).trace) (run_says p n right (null_calls_of p) brackets every (marked_tied p free) Good Passed guard records turns)
-
-pub runs_raise_none : RunsRaiseNoAlarm
-runs_raise_none p n right =
-    guarded_runs p n right (IsGood p n right no_marks none_recorded) (ArePassed p n right no_marks none_recorded) (typed_guard p n right no_marks none_recorded)
-
 pub marked_runs_raise_none : MarkedRunsRaiseNoAlarm
-marked_runs_raise_none p n right free =
-    guarded_marked_runs p n right free (IsGood p n right (null_calls_of p) (null_calls_recorded p)) (ArePassed p n right (null_calls_of p) (null_calls_recorded p)) (typed_guard p n right (null_calls_of p) (null_calls_recorded p))
+marked_runs_raise_none p n right free records turns =
+    subst (λ t. Words brackets (shapes_of p) t) (told_every (marked_run p records turns).trace) (run_says p n right (null_calls_of p) brackets every (marked_tied p free) (IsGood p n right (null_calls_of p) (null_calls_recorded p)) (ArePassed p n right (null_calls_of p) (null_calls_recorded p)) (typed_guard p n right (null_calls_of p) (null_calls_recorded p)) records turns)

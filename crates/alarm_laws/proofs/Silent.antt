@@ -222,10 +222,10 @@ module _ (p : Program) where
       let lt = slice_get_within p.functions f g is in
       absurd (false≢true (sym never ∙ enough p (suc (defined p)) f (is_in_of f (one_round p R) (in_filter (λ f. is_in f R || has_one (enters p R) (said_by (slice_get p.functions f))) (functions_of p) f (in_range 0 (defined p + 24) f (omega arith) (omega arith)) (or_right (is_in f R) _ e)))))
 
-  hushed_call : (fs : List ℕ) (x : Mention) → fs ≡ reaching p (defined p) → enters p fs x ≡ false → IsHushed x
-  hushed_call fs (Named f) e h = tt
-  hushed_call fs (Calls s callee) e h = subst (λ fs. has_one (λ f. is_in f fs) (callees p callee) ≡ false) e h
+  hushed_call : (x : Mention) → enters p (reaching p (defined p)) x ≡ false → IsHushed x
+  hushed_call (Named f) e = tt
+  hushed_call x e = e
 
   pub silent_body : (f : ℕ) (g : Function) → slice_get p.functions f ≡ Some g → reaches p f ≡ false → IsSilent (shape_of_function p g)
   silent_body f g is never =
-      silent_stmt g.body (λ x k. hushed_call (reaching p (defined p)) x refl (none_passes (enters p (reaching p (defined p))) (mentions_of_function g) (ap (λ o. has_one (enters p (reaching p (defined p))) (said_by o)) (sym is) ∙ none_entered f g is never (has_one (enters p (reaching p (defined p))) (said_by (slice_get p.functions f))) refl) x k))
+      silent_stmt g.body (λ x k. hushed_call x (none_passes (enters p (reaching p (defined p))) (mentions_of_function g) (ap (λ o. has_one (enters p (reaching p (defined p))) (said_by o)) (sym is) ∙ none_entered f g is never (has_one (enters p (reaching p (defined p))) (said_by (slice_get p.functions f))) refl) x k))

@@ -43,9 +43,6 @@ module _ (p : Program) (n : ℕ) (right : IsProgram p n) (marks : Marks) (m : F.
   value_of : (wanted : Bool) (e : Expr) → IsValue p fr.types e → StandsIn p (mentions e) → (st : State) → Good fr st → Says env m keep {A = Value} Straight (shape p e) (E wanted e st)
   value_of = value_says p n right marks m keep ties Good Passed guard k goes fr
 
-  kept_value : (wanted : Bool) (e : Expr) (st : State) → IsValue p fr.types e → StandsIn p (mentions e) → Good fr st → Gives {A = Value} (λ v st. Good fr st) (E wanted e st)
-  kept_value wanted e st h l g = guard.value k fr wanted e st h l g
-
   -- the parts of a loop
   pub condition_says : (e : Maybe) → IsTest p fr.types e → StandsIn p (mentions_of_maybe e) → (st : State) → Good fr st → Says env m keep {A = Bool} Straight (shape_of_maybe p e) (condition p (world p marks k) marks fr e st)
   condition_says absent h l st g = λ u. F.skip
@@ -53,7 +50,7 @@ module _ (p : Program) (n : ℕ) (right : IsProgram p n) (marks : Marks) (m : F.
 
   pub condition_kept : (e : Maybe) → IsTest p fr.types e → StandsIn p (mentions_of_maybe e) → (st : State) → Good fr st → Gives {A = Bool} (λ b st. Good fr st) (condition p (world p marks k) marks fr e st)
   condition_kept absent h l st g = g
-  condition_kept (there e) h l st g = tested_gives (Good fr) (E true e st) (kept_value true e st h.1 l g)
+  condition_kept (there e) h l st g = tested_gives (Good fr) (E true e st) (guard.value k fr true e st h.1 l g)
 
   pub step_says : (e : Maybe) → IsStep p fr.types e → StandsIn p (mentions_of_maybe e) → (st : State) → Good fr st → Says env m keep {A = Exit} Straight (shape_of_maybe p e) (perhaps p (world p marks k) marks fr e st)
   step_says absent h l st g = λ u. F.skip
@@ -63,7 +60,7 @@ module _ (p : Program) (n : ℕ) (right : IsProgram p n) (marks : Marks) (m : F.
   pub step_kept : (e : Maybe) → IsStep p fr.types e → StandsIn p (mentions_of_maybe e) → (st : State) → Good fr st → Keeping (perhaps p (world p marks k) marks fr e st)
   step_kept absent h l st g = g
   step_kept (there e) h l st g =
-      then_gives {A = Value} {B = Exit} (λ v st. Good fr st) (λ x st. Good fr st) (E false e st) _ (kept_value false e st h l g) (λ v st i. i)
+      then_gives {A = Value} {B = Exit} (λ v st. Good fr st) (λ x st. Good fr st) (E false e st) _ (guard.value k fr false e st h l g) (λ v st i. i)
 
   -- the initialisers of a variable
   inits_say : (x : ℕ) (t : CType) (is : Inits) → slice_get fr.types x ≡ Some t → AreInits p fr.types (flat p.structs t) is → StandsIn p (mentions_of_inits is) → (st : State) → Good fr st → SaysAll env m keep {A = Exit} left_by (shapes_of_inits p is) (initialise p (world p marks k) marks fr x is st)
@@ -148,7 +145,7 @@ module _ (p : Program) (n : ℕ) (right : IsProgram p n) (marks : Marks) (m : F.
         let j = right_part p (mentions e) (mentions_of_stmt s ++ mentions_of_stmt u) l in
         let S = shape_of_stmt p s in
         let U = shape_of_stmt p u in
-        choice_says env m keep {A = Exit} left_by (shape p e) (alt S U) (Good fr) (E true e st) (exec p (world p marks k) marks fr s) (exec p (world p marks k) marks fr u) (value_of true e h.0.1 i st g) (kept_value true e st h.0.1 i g) (λ st q. (left_says env m keep {A = Exit} left_by S U _ (stmt_says r b c s h.1 (left_part p (mentions_of_stmt s) (mentions_of_stmt u) j) st q), right_says env m keep {A = Exit} left_by S U _ (stmt_says r b c u h.2 (right_part p (mentions_of_stmt s) (mentions_of_stmt u) j) st q)))
+        choice_says env m keep {A = Exit} left_by (shape p e) (alt S U) (Good fr) (E true e st) (exec p (world p marks k) marks fr s) (exec p (world p marks k) marks fr u) (value_of true e h.0.1 i st g) (guard.value k fr true e st h.0.1 i g) (λ st q. (left_says env m keep {A = Exit} left_by S U _ (stmt_says r b c s h.1 (left_part p (mentions_of_stmt s) (mentions_of_stmt u) j) st q), right_says env m keep {A = Exit} left_by S U _ (stmt_says r b c u h.2 (right_part p (mentions_of_stmt s) (mentions_of_stmt u) j) st q)))
     stmt_says r b c (while_loop e s) h l st g =
         goes.again fr r _ st h.0 h.1 tt (left_part p (mentions e) (mentions_of_stmt s) l) (right_part p (mentions e) (mentions_of_stmt s) l) (λ x q. absurd (none_in x q)) g
     stmt_says r b c (do_loop s e) h l st g =
@@ -167,13 +164,13 @@ module _ (p : Program) (n : ℕ) (right : IsProgram p n) (marks : Marks) (m : F.
     stmt_says r b c (switch_on e gs) h l st g =
         let i = left_part p (mentions e) (mentions_of_groups gs) l in
         let C = Cases (shapes_of_groups p gs) (has_default gs) in
-        seq_says env m keep {A = Exit} left_by (Part (shape p e) (Part C End)) _ (part_then env m keep {A = Value} {B = Exit} left_by (shape p e) (Part C End) (λ v st. Good fr st) (E true e st) _ (value_of true e h.3 i st g) (kept_value true e st h.3 i g) (λ v st q.
+        seq_says env m keep {A = Exit} left_by (Part (shape p e) (Part C End)) _ (part_then env m keep {A = Value} {B = Exit} left_by (shape p e) (Part C End) (λ v st. Good fr st) (E true e st) _ (value_of true e h.3 i st g) (guard.value k fr true e st h.3 i g) (λ v st q.
         part_alone env m keep {A = Exit} left_by C _ (switch_says v gs st (groups_say r c h.0 gs h.5 (right_part p (mentions e) (mentions_of_groups gs) l) (selected v gs) st q))))
     stmt_says r b c break_off h l st g = λ u. F.break_out
     stmt_says r b c continue_on h l st g = λ u. F.continue_on
     stmt_says r b c return_void h l st g = λ u. F.return_now
     stmt_says r b c (return_value e) h l st g =
-        seq_says env m keep {A = Exit} left_by (Part (shape p e) (Part Return End)) _ (part_then env m keep {A = Value} {B = Exit} left_by (shape p e) (Part Return End) (λ v st. Good fr st) (E true e st) _ (value_of true e h.2 l st g) (kept_value true e st h.2 l g) (λ v st q. part_alone env m keep {A = Exit} left_by Return (Go (returned (Some v)) st []) (λ u. F.return_now)))
+        seq_says env m keep {A = Exit} left_by (Part (shape p e) (Part Return End)) _ (part_then env m keep {A = Value} {B = Exit} left_by (shape p e) (Part Return End) (λ v st. Good fr st) (E true e st) _ (value_of true e h.2 l st g) (guard.value k fr true e st h.2 l g) (λ v st q. part_alone env m keep {A = Exit} left_by Return (Go (returned (Some v)) st []) (λ u. F.return_now)))
 
     stmts_say : (r : CType) (b c : Bool) (ss : Stmts) → AreStmts p fr.types r b c ss → StandsIn p (mentions_of_stmts ss) → (st : State) → Good fr st → SaysAll env m keep {A = Exit} left_by (shapes_of_stmts p ss) (exec_all p (world p marks k) marks fr ss st)
     stmts_say r b c no_stmts h l st g = λ u. F.ended

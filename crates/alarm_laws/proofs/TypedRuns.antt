@@ -1,6 +1,7 @@
 -- Typed states are kept by runs, and a function value of the type of the pointer that is called is a candidate.
-use Rattle.std.proofs.Common.{◌≡◌, ℕ, Bool, true, false, List, [], All, Contains, Some, sym, ap, ◌∙◌, subst}
+use Rattle.std.proofs.Common.{◌≡◌, ℕ, Bool, true, false, List, [], ◌∷◌, All, Contains, Some, sym, ap, ◌∙◌, subst}
 use Rattle.std.proofs.lemmas.List.Elements.{All-nil, All-cons}
+use Rattle.dm_base.specs.declared.event.Event.{Event}
 use Rattle.dm_base.specs.declared.event.Event.TheVariants.{Pre, Post}
 use Rattle.flow_graph_laws.specs.Table.{IsRecorded}
 use Rattle.c_tree.specs.declared.value.Value.{Value}
@@ -24,10 +25,10 @@ use Rattle.c_meaning_laws.proofs.Candidates.{callees_are_candidates}
 use Rattle.c_meaning_laws.proofs.Worlds.{opens, types_are_kept, runs_begin_typed}
 use Rattle.alarm_laws.specs.MarkedRuns.{null_calls_of}
 use Rattle.c_shapes.proofs.SitesSaid.{callee_found}
+use Rattle.alarm_laws.proofs.Lists.{if_has}
 use Rattle.alarm_laws.proofs.Says.{Gives}
 use Rattle.alarm_laws.proofs.Guards.{with_turns, IsGuarded}
 use Rattle.alarm_laws.proofs.Places.{type_of_function}
-use Rattle.alarm_laws.proofs.Marking.{marks_if}
 
 module _ (p : Program) (n : ℕ) (right : IsProgram p n) (marks : Marks) (recorded : AreRecorded marks) where
   -- the state is typed, and the variables of the frame are told of
@@ -83,8 +84,5 @@ pub none_recorded : AreRecorded no_marks
 none_recorded site = (All-nil IsRecorded, All-nil IsRecorded)
 
 pub null_calls_recorded : (p : Program) → AreRecorded (null_calls_of p)
-null_calls_recorded p site = by (marked p site)
-  where
-    by : (b : Bool) → All IsRecorded ((marks_if site b).0) × All IsRecorded ((marks_if site b).1)
-    by true = (All-cons IsRecorded (Pre site) [] tt (All-nil IsRecorded), All-cons IsRecorded (Post site) [] tt (All-nil IsRecorded))
-    by false = (All-nil IsRecorded, All-nil IsRecorded)
+null_calls_recorded p site =
+    if_has (λ (x : List Event × List Event). All IsRecorded (x.0) × All IsRecorded (x.1)) (marked p site) (Pre site ∷ [], Post site ∷ []) ([], []) (λ e. (All-cons IsRecorded (Pre site) [] tt (All-nil IsRecorded), All-cons IsRecorded (Post site) [] tt (All-nil IsRecorded))) (λ e. (All-nil IsRecorded, All-nil IsRecorded))
