@@ -1,8 +1,8 @@
 -- A constant argument has in each run the value that it has in the program, and so an event fits its pattern (C99 6.6).
-use Rattle.std.proofs.Common.{◌≡◌, ℕ, zero, suc, ◌<◌, Bool, true, false, not, ◌&&◌, List, [], ◌∷◌, ℤ, pos, ◌-ℤ◌, Option, Some, None, slice_get, slice_index_or, refl, ap, sym, ◌∙◌, subst, arith}
+use Rattle.std.proofs.Common.{◌≡◌, ℕ, zero, suc, ◌<◌, Bool, true, false, not, ◌&&◌, List, [], ◌∷◌, ℤ, pos, Option, Some, None, slice_get, slice_index_or, refl, ap, sym, ◌∙◌, subst, arith}
 use Rattle.std.specs.Int.{w32, int_wrap}
 use Rattle.std.specs.Ordering.{int_eq}
-use Rattle.std.specs.Prelude.{drop, neg_ℤ}
+use Rattle.std.specs.Prelude.{drop}
 use Rattle.std.proofs.lemmas.Bool.Decides.{Decides-int_eq}
 use Rattle.std.proofs.lemmas.Int.{ints, int_wrap_fits}
 use Rattle.dm_base.specs.declared.event.Arg.{Arg}
@@ -15,16 +15,16 @@ use Rattle.flow_graph_laws.specs.Table.{Row, row, table, recorded_of}
 use Rattle.c_tree.specs.declared.value.IntType.{IntType}
 use Rattle.c_tree.specs.declared.value.IntType.TheVariants as i
 use Rattle.c_tree.specs.declared.value.UnOp.{UnOp}
-use Rattle.c_tree.specs.declared.value.UnOp.TheVariants.{Minus, Complement, Not}
+use Rattle.c_tree.specs.declared.value.UnOp.TheVariants.{Minus, Not}
 use Rattle.c_tree.specs.declared.value.Pointer.{Pointer}
 use Rattle.c_tree.specs.declared.value.Value.{Value}
-use Rattle.c_tree.specs.declared.value.Value.TheVariants.{Indeterminate, Int, Uint, Char, Uchar, Null, Func, At}
+use Rattle.c_tree.specs.declared.value.Value.TheVariants.{Int, Uint, Char, Uchar, Null, Func, At}
 use Rattle.c_tree.specs.Tree.{CType, integer, function, CTypes, no_types, more_types, Program, type_of}
 use Rattle.c_tree.specs.Tree.{Expr, constant, unary_operation, conversion, arithmetic}
 use Rattle.c_tree.specs.Tree.{Exprs, no_exprs, more_exprs}
 use Rattle.c_tree.specs.Functions.{int, unsigned_int, char_pointer, sys_types}
-use Rattle.c_tree.specs.Operands.{FitsUnary, IsPromoted}
-use Rattle.c_tree.specs.Operators.{Answer, gives, undefined, and_then, truth, convert, unary, binary, fits_int, fitting, settle, low_bits}
+use Rattle.c_tree.specs.Operands.{FitsUnary}
+use Rattle.c_tree.specs.Operators.{Answer, gives, undefined, and_then, truth, convert, unary, binary, low_bits}
 use Rattle.c_tree.specs.OperatorTypes.{IsAnswer, IsGiven}
 use Rattle.c_tree.specs.Kinds.{IsConstant}
 use Rattle.c_tree.specs.Program.{IsProgram}
@@ -33,7 +33,7 @@ use Rattle.c_meaning_laws.specs.StoreTyping.{HasKind}
 use Rattle.c_meaning_laws.proofs.Steps.{Right, constant_of, of_constant, operated_right}
 use Rattle.c_tree.specs.Typed.{IsValue, AreArguments}
 use Rattle.c_tree.specs.Constants.{given, given_of, given_of_two, constant_value, number_in, entry, entries, recorded_arguments, pattern_of}
-use Rattle.c_tree.proofs.OperatorLemmas.{converted, arithmetic_fits, below_32}
+use Rattle.c_tree.proofs.OperatorLemmas.{converted, arithmetic_fits}
 use Rattle.c_shapes.specs.CallGraph.{same_type}
 use Rattle.c_shapes.proofs.SameTypes.{types_tell}
 use Rattle.c_meaning.specs.Memory.{Objects}
@@ -42,7 +42,6 @@ use Rattle.c_meaning.specs.Pointers.{truth_value, is_not_zero, number}
 use Rattle.c_meaning.specs.Results.{State, Go, after, then_do, answered}
 use Rattle.c_meaning.specs.SystemCalls.{Request, argument, arguments, room_for, bytes_of_buffer, read_request, write_request, request, size}
 use Rattle.alarm_laws.proofs.Lists.{and_left, and_right, same_some, no_some}
-use Rattle.c_tree.proofs.OperatorLemmas.{fits}
 
 -- what a step gives is so
 abbrev IfGives : {A : Type 0} → (A → Type 0) → Answer A → Type 0

@@ -25,7 +25,7 @@ use Rattle.c_meaning_laws.specs.TypedResults.{StandsIn}
 use Rattle.c_meaning_laws.proofs.Standing.{left_part, right_part}
 use Rattle.alarm_laws.proofs.Lists.{each_first, each_rest, same_some, no_some}
 use Rattle.alarm_laws.proofs.Words.{Stands, here, inside, beyond}
-use Rattle.alarm_laws.proofs.Says.{Gives, gives_any, gives_both, then_gives, tested_gives, Tells, left_by, Straight, after_tells, answered_then, remembered_tells, either_tells, then_left, Says, SaysAll, seq_says, left_says, right_says, part_alone, part_then, part_last, then_quiet, none_quiet, tested_says, choice_says}
+use Rattle.alarm_laws.proofs.Says.{Gives, gives_any, gives_both, then_gives, Tells, left_by, Straight, after_tells, answered_then, remembered_tells, then_left, Says, SaysAll, seq_says, left_says, right_says, part_alone, part_then, part_last, then_quiet, none_quiet, tested_says, choice_says}
 use Rattle.alarm_laws.proofs.Constants.{AreConstants, constant_is}
 use Rattle.alarm_laws.proofs.Guards.{IsGuarded, IsTied}
 use Rattle.alarm_laws.proofs.Calls.{Entered, called_says, through_at}

@@ -12,7 +12,7 @@ use Rattle.c_tree.specs.Layout.{flat, cells}
 use Rattle.c_tree.specs.Typed.{IsValue, IsPlace, AreArguments, IsStmt}
 use Rattle.c_meaning.specs.Answers.{gives}
 use Rattle.c_meaning.specs.Memory.{declared}
-use Rattle.c_shapes.specs.Mentions.{Mention, Direct, Through, Calls, mentions, mentions_of_all, mentions_of_stmt, mentions_of_program}
+use Rattle.c_shapes.specs.Mentions.{Direct, Through, Calls, mentions, mentions_of_all, mentions_of_stmt, mentions_of_program}
 use Rattle.c_shapes.specs.CallGraph.{callees, marked}
 use Rattle.c_shapes.specs.Words as words
 use Rattle.c_meaning.specs.Meaning.{Marks, Frame, name_in, eval, eval_all, exec}

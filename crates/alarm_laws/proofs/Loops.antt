@@ -9,8 +9,8 @@ use Rattle.c_tree.specs.declared.tree.TLabel.{TLabel}
 use Rattle.c_tree.specs.declared.tree.TLabel.TheVariants.{Case}
 use Rattle.c_tree.specs.Tree.{Groups, no_groups, more_groups}
 use Rattle.c_meaning.specs.Meaning.{either, is_case, is_default, group_with, count_groups, or_else, selected}
-use Rattle.c_meaning.specs.Results.{State, Result, Go, Stop, then_do, Exit, on, broken, continued, returned, on_round}
-use Rattle.c_shapes.specs.Shape.{Shape, Skip, Loop, Do, Shapes, Leave, goes_on, breaks, continues, returns, IsNext}
+use Rattle.c_meaning.specs.Results.{State, Result, Go, Stop, then_do, Exit, on, broken, returned, on_round}
+use Rattle.c_shapes.specs.Shape.{Shape, Skip, Loop, Do, Shapes, Leave, goes_on, breaks, returns, IsNext}
 use Rattle.c_shapes.specs.Words.{Marks, Whole, Front}
 use Rattle.c_shapes.specs.Words as F
 use Rattle.c_shapes.specs.ShapeOf.{has_default_label, has_default}
@@ -84,26 +84,21 @@ group_within : (is : TLabel → Bool) (gs : Groups) (k : ℕ) → group_with is 
 group_within is no_groups k e = grind (arith, e)
 group_within is (more_groups ls ss gs) k e = found_from (list_any is ls) (group_with is gs) (count_groups gs) (group_within is gs) k e
 
-IsFound : Option ℕ → Type 0
-IsFound o = (k : ℕ) × (o ≡ Some k)
+low_from : (b c : Bool) (o : Option ℕ) (n : ℕ) → (b || c) ≡ true → (c ≡ true → or_else o n < n) → or_else (if b then Some 0 else option_map suc o) (suc n) < suc n
+low_from true c o n h k = omega arith
+low_from false c None n h k = let i = k h in omega (arith, i)
+low_from false c (Some j) n h k = let i = k h in omega (arith, i)
 
-default_from : (b c : Bool) (o : Option ℕ) → (b || c) ≡ true → (c ≡ true → IsFound o) → IsFound (if b then Some 0 else option_map suc o)
-unfolding IsFound
-default_from true c o h k = (0, refl)
-default_from false c o h k = let r = k h in (suc (r.0), ap (λ o. option_map suc o) r.1)
+default_low : (gs : Groups) → has_default gs ≡ true → or_else (group_with is_default gs) (count_groups gs) < count_groups gs
+default_low no_groups h = absurd (false≢true h)
+default_low (more_groups ls ss gs) h =
+    low_from (list_any is_default ls) (has_default gs) (group_with is_default gs) (count_groups gs) (ap (λ b. b || has_default gs) (sym (labels_default ls)) ∙ h) (default_low gs)
 
-default_found : (gs : Groups) → has_default gs ≡ true → IsFound (group_with is_default gs)
-default_found no_groups h = absurd (false≢true h)
-default_found (more_groups ls ss gs) h =
-    default_from (list_any is_default ls) (has_default gs) (group_with is_default gs) (ap (λ b. b || has_default gs) (sym (labels_default ls)) ∙ h) (default_found gs)
-
-selected_if : (a b : Option ℕ) (n : ℕ) → ((k : ℕ) → a ≡ Some k → k < n) → ((k : ℕ) → b ≡ Some k → k < n) → IsFound b → or_else a (or_else b n) < n
-unfolding IsFound
-selected_if (Some j) b n h k f = h j refl
-selected_if None (Some j) n h k f = k j refl
-selected_if None None n h k f = let e = f.1 in grind (arith, e)
+selected_if : (a : Option ℕ) (m n : ℕ) → ((k : ℕ) → a ≡ Some k → k < n) → m < n → or_else a m < n
+selected_if (Some j) m n h k = h j refl
+selected_if None m n h k = k
 
 -- with a default some group is selected
 pub selected_within : (v : Value) (gs : Groups) → has_default gs ≡ true → selected v gs < count_groups gs
 selected_within v gs h =
-    selected_if (group_with (is_case v) gs) (group_with is_default gs) (count_groups gs) (group_within (is_case v) gs) (group_within is_default gs) (default_found gs h)
+    selected_if (group_with (is_case v) gs) (or_else (group_with is_default gs) (count_groups gs)) (count_groups gs) (group_within (is_case v) gs) (default_low gs h)

@@ -14,7 +14,6 @@ use Rattle.c_shapes.proofs.Erasing.{front}
 use Rattle.c_shapes.proofs.Fronts.{dyck_front, stack_front, callgraph_front}
 use Rattle.c_shapes.proofs.Walking.{walked}
 use Rattle.dm_base.specs.Trace.{erase}
-use Rattle.flow_graph_laws.specs.Equal.{AreEqual}
 use Rattle.flow_graph_laws.specs.GraphOfProgram.{graph_of_program}
 use Rattle.flow_graph_laws.proofs.Runs as graphs
 use Rattle.flow_graph_laws.proofs.ProgramsClosed.{closed, many_names}

@@ -1,21 +1,14 @@
 -- The laws, from what is kept by runs.
-use Rattle.std.proofs.Common.{ℕ, List, subst}
+use Rattle.std.proofs.Common.{subst}
 use Rattle.dm_base.specs.Trace.{erase}
-use Rattle.c_tree.specs.declared.value.Value.{Value}
-use Rattle.c_tree.specs.Tree.{CTypes, Program}
-use Rattle.c_tree.specs.Program.{IsProgram}
 use Rattle.c_shapes.specs.Languages.{Words}
 use Rattle.c_shapes.specs.ProgramLanguages.{Stack}
 use Rattle.c_shapes.specs.ShapeOf.{shapes_of}
 use Rattle.c_shapes.specs.Words.{brackets, no_brackets}
 use Rattle.c_shapes.proofs.Walking.{walked}
-use Rattle.c_meaning.specs.Meaning.{Frame}
-use Rattle.c_meaning.specs.Results.{State}
 use Rattle.c_meaning.specs.Runs.{no_marks, run}
-use Rattle.c_meaning.specs.WithoutNullCalls.{MakesNoNullCall}
 use Rattle.alarm_laws.specs.MarkedRuns.{null_calls_of, marked_run}
-use Rattle.alarm_laws.specs.NoFalseAlarm.{RunsAreWords, MarkedRunsAreWords, RunsRaiseNoAlarm, MarkedRunsRaiseNoAlarm}
-use Rattle.alarm_laws.proofs.Guards.{IsGuarded}
+use Rattle.alarm_laws.specs.NoFalseAlarm.{RunsRaiseNoAlarm, MarkedRunsRaiseNoAlarm}
 use Rattle.alarm_laws.proofs.Marking.{every, system_calls, told_every, told_system_calls, marked_tied, plain_tied}
 use Rattle.alarm_laws.proofs.Programs.{run_says}
 use Rattle.alarm_laws.proofs.TypedRuns.{IsGood, ArePassed, typed_guard, none_recorded, null_calls_recorded}

@@ -14,15 +14,15 @@ use Rattle.c_shapes.specs.Words.{Whole, Falls, Picks, Front, FrontPicks}
 use Rattle.c_shapes.specs.Words as F
 use Rattle.c_shapes.specs.Mentions.{mentions, mentions_of_maybe, mentions_of_inits, mentions_of_stmt, mentions_of_stmts, mentions_of_groups}
 use Rattle.c_shapes.specs.ShapeOf.{seq, seq_two, alt, shape, shape_of_maybe, shapes_of_inits, shape_of_stmt, shapes_of_stmts, shapes_of_groups, has_default, shapes_of}
-use Rattle.c_meaning.specs.Meaning.{Marks, Frame, either, tested, eval, condition, perhaps, initialise, fresh, declared_in, without, leaving, selected, count_groups, exec, exec_all, exec_from, name_in}
+use Rattle.c_meaning.specs.Meaning.{Marks, Frame, eval, condition, perhaps, initialise, fresh, declared_in, without, leaving, selected, count_groups, exec, exec_all, exec_from, name_in}
 use Rattle.c_meaning.specs.Pointers.{place, store_place}
-use Rattle.c_meaning.specs.Results.{State, with_memory, Result, Go, then_do, remembered, Exit, on, broken, continued, returned, on_exit, out_of_switch}
+use Rattle.c_meaning.specs.Results.{State, with_memory, Result, Go, then_do, remembered, Exit, on, returned, on_exit, out_of_switch}
 use Rattle.c_meaning.specs.Runs.{world}
 use Rattle.c_meaning_laws.specs.TypedResults.{StandsIn}
 use Rattle.c_meaning_laws.proofs.Standing.{left_part, right_part}
 use Rattle.alarm_laws.proofs.Lists.{none_in, below, not_below, if_has}
 use Rattle.alarm_laws.proofs.Words.{Stands, here, stands_falls, out_of, cases_whole}
-use Rattle.alarm_laws.proofs.Says.{Gives, then_gives, tested_gives, Tells, left_by, Straight, change_tells, after_none, remembered_then, either_tells, then_left, Says, SaysAll, seq_says, left_says, right_says, part_alone, part_then, then_quiet, tested_says, choice_says, exit_then}
+use Rattle.alarm_laws.proofs.Says.{Gives, then_gives, tested_gives, Tells, left_by, Straight, change_tells, after_none, remembered_then, then_left, Says, SaysAll, seq_says, left_says, right_says, part_alone, part_then, then_quiet, tested_says, choice_says, exit_then}
 use Rattle.alarm_laws.proofs.Loops.{do_says, selected_within}
 use Rattle.alarm_laws.proofs.Guards.{IsGuarded, IsTied}
 use Rattle.alarm_laws.proofs.Expressions.{IsFine, value_says}
