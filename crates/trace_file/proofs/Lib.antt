@@ -14,3 +14,4 @@ pub mod ReachedLemmas
 pub mod TraceLemmas
 pub mod TracesLemmas
 pub mod HeadLemmas
+pub mod WrittenLists

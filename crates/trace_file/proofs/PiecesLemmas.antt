@@ -1,10 +1,11 @@
 -- How a text that comes in pieces is read line by line.
 use Rattle.std.proofs.Common.{◌≡◌, ◌≤◌, ◌<◌, ℕ, ◌+◌, List, [], ◌∷◌, ◌++◌, length, Contains, refl, sym, ◌∙◌, ap, subst, append_assoc, arith, length-append, inl, inr}
-use Rattle.std.proofs.lemmas.List.{append-nil}
+use Rattle.std.proofs.lemmas.List.{append-nil, nil_from_length}
 use Rattle.std.proofs.lemmas.List.Elements.{Contains-append_cases}
 use Rattle.trace_file.specs.declared.error.TraceError.{TraceError}
 use Rattle.trace_file.specs.Trace.{longest}
 use Rattle.trace_file.specs.Pieces.{IsWhole, IsCut, IsShown, Takes, Shows, HasTaken}
+use Rattle.trace_file.specs.Held.{Held, StandsFor}
 
 -- what is shown stays shown
 pub shown_on : (IsRefusal : TraceError → List ℕ → Type 0) (error : TraceError) (text more : List ℕ) → IsShown IsRefusal error text → IsShown IsRefusal error (text ++ more)
@@ -25,6 +26,9 @@ module _ {P I : Type 0} (Reaches : P → List ℕ → List I → Type 0) where
 
   pub none_taken : (place : P) (text : List ℕ) (items : List I) → HasTaken Reaches place text text items items place
   none_taken place text items = record { lines = []; given = []; parts = refl; grown = sym (append-nil items); takes = takes_none place }
+
+  pub nothing_taken : (place : P) (text rest : List ℕ) (items : List I) → rest ≡ text → items ≡ [] → HasTaken Reaches place text rest [] items place
+  nothing_taken place text rest items same none = record { lines = []; given = []; parts = sym same; grown = none; takes = takes_none place }
 
   pub one_taken : (old new : P) (line : List ℕ) (given before after : List I) → Takes Reaches old line given new → after ≡ before ++ given → HasTaken Reaches old line [] before after new
   one_taken old new line given before after takes grown = record { lines = line; given = given; parts = sym (append-nil line); grown = grown; takes = takes }
@@ -83,6 +87,33 @@ module _ {P I : Type 0} (Reaches : P → List ℕ → List I → Type 0) where
     -- what is told of every text is shown
     pub shows_always : (old : P) (text : List ℕ) (error : TraceError) → ((t : List ℕ) → IsRefusal error t) → Shows Reaches IsRefusal old error text
     shows_always old text error each done items reached more short = each ((done ++ text) ++ more)
+
+-- what a reader stands for, once it took a piece
+module _ {P I : Type 0} (Reaches : P → List ℕ → List I → Type 0) (held : Held P) (piece text : List ℕ) (items : List I) where
+  pub stands_more : (place : P) (tail : List ℕ) (given : List I) → HasTaken Reaches held.place (held.tail ++ piece) tail [] given place → (Contains tail 10 → ⊥) → held.size + length piece ≤ longest → StandsFor Reaches held text items → StandsFor Reaches record { place = place; tail = tail; size = held.size + length piece; refused = held.refused } (text ++ piece) (items ++ given)
+  stands_more place tail given taken plain fits stands =
+      record {
+        done = stands.done ++ taken.lines;
+        unrefused = stands.unrefused;
+        reached = subst (λ (t : List I). Reaches place (stands.done ++ taken.lines) (items ++ t)) (sym taken.grown) (taken.takes stands.done items stands.reached);
+        parts = ap (λ (t : List ℕ). t ++ piece) stands.parts ∙ append_assoc stands.done held.tail piece ∙ ap (λ (t : List ℕ). stands.done ++ t) taken.parts ∙ sym (append_assoc stands.done taken.lines tail);
+        plain = plain;
+        size = ap (λ n. n + length piece) stands.size ∙ sym (length-append text piece);
+        short = omega (arith, stands.size, length-append text piece, fits);
+      }
+
+  -- why the piece is refused is shown by the text
+  pub shown_after : (IsRefusal : TraceError → List ℕ → Type 0) (error : TraceError) → Shows Reaches IsRefusal held.place error (held.tail ++ piece) → StandsFor Reaches held text items → IsShown IsRefusal error (text ++ piece)
+  shown_after IsRefusal error shows stands =
+      subst (λ (t : List ℕ). IsShown IsRefusal error t) (sym (append_assoc stands.done held.tail piece) ∙ ap (λ (t : List ℕ). t ++ piece) (sym stands.parts)) (shows stands.done items stands.reached)
+
+-- two texts without a line feed make one
+pub both_plain : (a b whole : List ℕ) → whole ≡ a ++ b → (Contains a 10 → ⊥) → (Contains b 10 → ⊥) → Contains whole 10 → ⊥
+both_plain a b whole is first then has = elim (Contains-append_cases a b 10 (subst (λ (t : List ℕ). Contains t 10) is has)) [ inl before ↦ first before | inr after ↦ then after ]
+
+-- a text after an empty one
+pub after_empty : (a b : List ℕ) → length a ≡ 0 → b ≡ a ++ b
+after_empty a b none = ap (λ (t : List ℕ). t ++ b) (sym (nil_from_length a none))
 
 -- what follows a line is shorter
 pub cut_shorter : (text line rest : List ℕ) → IsCut text line rest → length rest < length text

@@ -2,7 +2,6 @@
 use Rattle.std.specs.Prelude.{◌≡◌, ℕ, List, length}
 use Rattle.std.specs.Ordering.{nat_cmp}
 use Rattle.std.specs.FinSet.{from_list, len}
-use Rattle.trace_file.specs.Known.{known}
 
 -- the list has exactly the numbers of the other, each once
 pub record AreKnown (known numbers : List ℕ) : Type 0 where

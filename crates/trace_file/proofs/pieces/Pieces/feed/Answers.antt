@@ -1,0 +1,25 @@
+use Rattle.std.proofs.Common.{◌≤◌, ◌+◌, length, sym, subst, arith}
+use Rattle.trace_file.specs.Held.{Held, StandsFor}
+use Rattle.trace_file.specs.Trace.{longest}
+use Rattle.trace_file.specs.declared.error.TraceError.TheVariants.{OutOfMemory}
+use Rattle.trace_file.proofs.PiecesLemmas.{stands_more, shown_after}
+use Rattle.trace_file.proofs.pieces.Pieces.feed.Goals as goal
+
+pub returns-in-Ok-clause-stands : goal.returns-in-Ok-clause-stands
+returns-in-Ok-clause-stands g c = λ text items stands.
+    let fits : c.self.inside.size + length c.args.piece.now ≤ longest = omega (arith, c.self.invariant.1, c.if-self-piece.false) in
+    let held : Held g.row.P.Denot = record { place = c.self.inside.place; tail = c.self.inside.tail.items; size = c.self.inside.size; refused = c.self.inside.refused } in
+    stands_more g.P.Place.reaches held c.args.piece.now text items c.take_piece.new.place c.take_piece.new.tail.items c.in-Ok.items.items c.in-Ok.ensures.takes c.in-Ok.ensures.plain fits
+    (subst (λ (h : Held g.row.P.Denot). StandsFor g.P.Place.reaches h text items) (sym c.self.view_is) stands)
+
+pub returns-in-Err-clause-shown : goal.returns-in-Err-clause-shown
+returns-in-Err-clause-shown g c = λ text items stands.
+    let held : Held g.row.P.Denot = record { place = c.self.inside.place; tail = c.self.inside.tail.items; size = c.self.inside.size; refused = c.self.inside.refused } in
+    shown_after g.P.Place.reaches held c.args.piece.now text items (g.P.Place.refuses c.take_piece.new.place) c.in-Err.error c.in-Err.ensures.shows
+    (subst (λ (h : Held g.row.P.Denot). StandsFor g.P.Place.reaches h text items) (sym c.self.view_is) stands)
+
+pub returns-in-Err-OutOfMemory-clause-shown : goal.returns-in-Err-OutOfMemory-clause-shown
+returns-in-Err-OutOfMemory-clause-shown g c = λ text items stands.
+    let held : Held g.row.P.Denot = record { place = c.self.inside.place; tail = c.self.inside.tail.items; size = c.self.inside.size; refused = c.self.inside.refused } in
+    shown_after g.P.Place.reaches held c.args.piece.now text items (g.P.Place.refuses c.take_piece.new.place) OutOfMemory (rw c.in-Err-OutOfMemory.field-0-is at c.in-Err-OutOfMemory.ensures.shows)
+    (subst (λ (h : Held g.row.P.Denot). StandsFor g.P.Place.reaches h text items) (sym c.self.view_is) stands)
