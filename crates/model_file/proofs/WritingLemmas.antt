@@ -18,6 +18,14 @@ next_item f xs i x within there =
     ∙ flat_map-append f (take i xs) (x ∷ [])
     ∙ ap (λ (t : List ℕ). flat_map f (take i xs) ++ t) (append-nil (f x))
 
+-- the text with one item more
+pub text_more : {X : Type 0} (f : X → List ℕ) (xs : List X) (i : ℕ) (x : X) (start old new : List ℕ) → i < length xs → slice_get xs i ≡ Some x → old ≡ start ++ flat_map f (take i xs) → new ≡ old ++ f x → new ≡ start ++ flat_map f (take (i + 1) xs)
+text_more f xs i x start old new within there before step =
+    step
+    ∙ ap (λ (t : List ℕ). t ++ f x) before
+    ∙ append_assoc start (flat_map f (take i xs)) (f x)
+    ∙ ap (λ (t : List ℕ). start ++ t) (sym (next_item f xs i x within there))
+
 -- what holds of the items before one, and of it, holds of those before the next
 pub so_far : {X : Type 0} (P : X → Type 0) (xs : List X) (i : ℕ) (x : X) → slice_get xs i ≡ Some x → P x → ((k : ℕ) (d : X) → k < i → P (slice_index_or xs k d)) → (k : ℕ) (d : X) → k < i + 1 → P (slice_index_or xs k d)
 so_far P xs i x there holds before k d within =
