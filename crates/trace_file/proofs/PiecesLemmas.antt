@@ -102,6 +102,9 @@ module _ {P I : Type 0} (Reaches : P → List ℕ → List I → Type 0) (held :
         short = omega (arith, stands.size, length-append text piece, fits);
       }
 
+  pub never_long : held.size + length piece ≤ longest → StandsFor Reaches held text items → longest < length (text ++ piece) → ⊥
+  never_long fits stands long = omega (arith, stands.size, length-append text piece, fits, long)
+
   -- why the piece is refused is shown by the text
   pub shown_after : (IsRefusal : TraceError → List ℕ → Type 0) (error : TraceError) → Shows Reaches IsRefusal held.place error (held.tail ++ piece) → StandsFor Reaches held text items → IsShown IsRefusal error (text ++ piece)
   shown_after IsRefusal error shows stands =
