@@ -164,18 +164,22 @@ module _ (known : Objects) (fr : Frame) (limit : ℕ) where
       pub now : Now known fr.activation p o st more
       pub ready : IsReady more
 
+    -- after a part that goes on
+    pub later_here : {A : Type 0} (ok : Objects → A → Type 0) (o : Objects) (st : State) (more l : Memory) (a : A) (z : State) (w : List Event) → Here o st more → (t : EndsTyped p {A = A} ok o st.entries (Go a z w)) → IsBeside known fr.activation z.memory l → IsReady l → Here t.0 z l
+    later_here ok o st more l a z w n t beside ready = record {
+      now = record {
+        state = t.3;
+        tells = alike_on fr.activation st.entries known o t.0 n.now.started n.now.tells t.5;
+        started = let a = n.now.started in let b = t.6 in omega (arith, a, b);
+        beside = beside;
+      };
+      ready = ready;
+    }
+
     -- one part and then the next
     pub then_does : {A B : Type 0} (owed wants : Bool) (k : ℕ) (ok : Objects → A → Type 0) (o : Objects) (st : State) (more : Memory) (r q : Result A) (f g : A → State → Result B) → Here o st more → EndsTyped p {A = A} ok o st.entries r → Does {A = A} owed k more r q → ((u : Objects) (a b : A) (st : State) (l : Memory) → Grows o u → ok u a → Same {A = A} owed a b → Here u st l → Does {A = B} wants k l (f a st) (g b (with_memory st l))) → Does {A = B} wants k more (then_do r f) (then_do q g)
     then_does {A} {B} owed wants k ok o st more (Go a z w) q f g n t h next =
-        subst (λ q. Does {A = B} wants k more (after w (f a z)) (then_do q g)) (sym h.is) (after_does {A = B} wants k more w (f a z) (g h.other (with_memory z h.left)) (later_does {A = B} wants k more h.left (f a z) (g h.other (with_memory z h.left)) h.stay (next t.0 a h.other z h.left t.1 t.2 h.same (record {
-          now = record {
-            state = t.3;
-            tells = alike_on fr.activation st.entries known o t.0 n.now.started n.now.tells t.5;
-            started = let a = n.now.started in let b = t.6 in omega (arith, a, b);
-            beside = h.beside;
-          };
-          ready = h.ready;
-        }))))
+        subst (λ q. Does {A = B} wants k more (after w (f a z)) (then_do q g)) (sym h.is) (after_does {A = B} wants k more w (f a z) (g h.other (with_memory z h.left)) (later_does {A = B} wants k more h.left (f a z) (g h.other (with_memory z h.left)) h.stay (next t.0 a h.other z h.left t.1 t.2 h.same (later_here {A = A} ok o st more h.left a z w n t h.beside h.ready))))
     then_does owed wants k ok o st more (Stop e w) q f g n t h next = ap (λ q. then_do q g) h
 
     -- where the first part gives the same

@@ -1,6 +1,8 @@
 -- The body of a function with its temporaries does what the body does: no object of the activation is left behind.
-use Rattle.std.proofs.Common.{◌≡◌, ◌⊎◌, inl, inr, ℕ, suc, ◌+◌, ◌≤◌, ◌<◌, nat_eq, nat_lt, Bool, true, false, List, [], ◌∷◌, ◌++◌, length, replicate, Option, Some, None, sym, ap, ◌∙◌, subst, refl, arith, true≢false}
+use Rattle.std.proofs.Common.{◌≡◌, ◌⊎◌, inl, inr, ℕ, suc, ◌+◌, ◌≤◌, ◌<◌, nat_eq, nat_lt, not, ◌&&◌, Bool, true, false, List, [], ◌∷◌, ◌++◌, All, length, replicate, Option, Some, None, sym, ap, ◌∙◌, subst, refl, arith, true≢false}
 use Rattle.std.proofs.Math.Nat.{eq-or-lt_of_le}
+use Rattle.std.proofs.lemmas.Bool.Decides.{nat_tests}
+use Rattle.std.proofs.lemmas.List.Elements.{All-head, All-tail}
 use Rattle.std.specs.Cmp.{nat_eq_equiv}
 use Rattle.c_tree.specs.declared.value.ObjectName.{ObjectName}
 use Rattle.c_tree.specs.declared.value.Value.TheVariants.{Indeterminate}
@@ -27,13 +29,13 @@ use Rattle.c_meaning_laws.proofs.Together.{Now}
 use Rattle.c_meaning_laws.proofs.Statements.{AreShown, without_beside, without_stays}
 use Rattle.c_meaning_laws.proofs.FurtherWorlds.{later_shown}
 use Rattle.null_calls_rules.specs.MarkedRuns.{null_calls_of}
-use Rattle.null_calls_rules.proofs.Lists.{below, not_below, same_number, no_some}
+use Rattle.null_calls_rules.proofs.Lists.{below, not_below, no_some, if_has}
 use Rattle.null_calls_rules.proofs.TypedRuns.{null_calls_recorded}
 use Rattle.null_calls_rules.specs.InstrumentedPrograms.{kept_of_stmt, kept_of_stmts, stmts, declared_from, items_of, body_from, instrumented_program}
 use Rattle.null_calls_runs_laws.specs.Pieces.{declaring}
 use Rattle.null_calls_runs_laws.proofs.PieceLemmas.{declarations_declare, shapes_stay}
 use Rattle.null_calls_runs_laws.proofs.Beside.{Does, Here}
-use Rattle.null_calls_runs_laws.proofs.Scalars.{AreScalars, stmts_scalars}
+use Rattle.null_calls_runs_laws.proofs.Scalars.{stmts_scalars}
 use Rattle.null_calls_runs_laws.proofs.Calls.{changed_elsewhere, Enters}
 use Rattle.null_calls_runs_laws.proofs.Statements.{Agains, stmts_do}
 
@@ -43,13 +45,8 @@ Own a k many x = x.activation ≡ a → k ≤ x.variable → x.variable < k + ma
 
 -- it is one of them, or it is not
 own_or_not : (a k many : ℕ) (x : ObjectName) → ((x.activation ≡ a) × (k ≤ x.variable) × (x.variable < k + many)) ⊎ Own a k many x
-own_or_not a k many x = by (nat_eq x.activation a) (nat_lt x.variable k) (nat_lt x.variable (k + many)) refl refl refl
-  where
-    by : (b c d : Bool) → nat_eq x.activation a ≡ b → nat_lt x.variable k ≡ c → nat_lt x.variable (k + many) ≡ d → ((x.activation ≡ a) × (k ≤ x.variable) × (x.variable < k + many)) ⊎ Own a k many x
-    by true false true e f g = inl (same_number x.activation a e, not_below x.variable k f, below x.variable (k + many) g)
-    by true false false e f g = inr (λ i j l. let h = not_below x.variable (k + many) g in omega (arith, h, l))
-    by true true d e f g = inr (λ i j l. let h = below x.variable k f in omega (arith, h, j))
-    by false c d e f g = inr (λ i j l. true≢false (sym (ap (λ b. nat_eq b a) i ∙ nat_eq_equiv.refl a) ∙ e))
+own_or_not a k many x =
+    if_has {A = Bool} (λ b. ((x.activation ≡ a) × (k ≤ x.variable) × (x.variable < k + many)) ⊎ Own a k many x) (nat_eq x.activation a && (not (nat_lt x.variable k) && nat_lt x.variable (k + many))) true false (λ e. inl (grind (arith, nat_tests, e), grind (arith, nat_tests, e), grind (arith, nat_tests, e))) (λ e. inr (λ i j l. absurd (grind (arith, nat_tests, e, i, j, l))))
 
 -- ## Declarations of temporaries
 
@@ -88,12 +85,12 @@ all_elsewhere f a k [] m x out = refl
 all_elsewhere f a k (t ∷ ts) m x out =
     all_elsewhere f a (suc k) ts _ x (λ e b c. out e (omega (arith, b)) (omega (arith, c))) ∙ changed_elsewhere m (record { activation = a; variable = k }) x _ (apart_name a k (suc (length ts)) x (omega arith) out)
 
-all_there : (f : CType → Option Object) (c : Option Object) → ((t : CType) → IsScalar t → f t ≡ c) → (a k : ℕ) (ts : List CType) (m : Memory) (j : ℕ) → AreScalars ts → k ≤ j → j < k + length ts → all_changed f a k ts m (record { activation = a; variable = j }) ≡ c
+all_there : (f : CType → Option Object) (c : Option Object) → ((t : CType) → IsScalar t → f t ≡ c) → (a k : ℕ) (ts : List CType) (m : Memory) (j : ℕ) → All IsScalar ts → k ≤ j → j < k + length ts → all_changed f a k ts m (record { activation = a; variable = j }) ≡ c
 all_there f c same a k [] m j h low high = absurd (omega (arith, low, high))
 all_there f c same a k (t ∷ ts) m j h low high = elim (eq-or-lt_of_le low) as (λ _. all_changed f a k (t ∷ ts) m (record { activation = a; variable = j }) ≡ c) [
   | inl here ↦
-      subst (λ j. all_changed f a k (t ∷ ts) m (record { activation = a; variable = j }) ≡ c) here (all_elsewhere f a (suc k) ts _ (record { activation = a; variable = k }) (λ e b c. let b : suc k ≤ k = b in omega (arith, b)) ∙ (changed_there m (record { activation = a; variable = k }) _ ∙ same t h.0))
-  | inr later ↦ all_there f c same a (suc k) ts _ j h.1 later (omega (arith, high))
+      subst (λ j. all_changed f a k (t ∷ ts) m (record { activation = a; variable = j }) ≡ c) here (all_elsewhere f a (suc k) ts _ (record { activation = a; variable = k }) (λ e b c. let b : suc k ≤ k = b in omega (arith, b)) ∙ (changed_there m (record { activation = a; variable = k }) _ ∙ same t (All-head IsScalar t ts h)))
+  | inr later ↦ all_there f c same a (suc k) ts _ j (All-tail IsScalar t ts h) later (omega (arith, high))
 ]
 
 -- what a store typing doesn't tell of isn't there
@@ -102,7 +99,7 @@ typed_none p o m x h e = by (m x) refl
   where
     by : (c : Option Object) → m x ≡ c → c ≡ None
     by None f = refl
-    by (Some ob) f = let t = h x ob f in absurd (no_some t.0 (sym e ∙ t.1))
+    by (Some ob) f = let t = h x ob f in absurd (cc (t.1))
 
 all_shown : (known : Objects) (last a : ℕ) (xs : List ℕ) → last < a → AreShown known last a xs
 all_shown known last a [] h = tt
@@ -111,9 +108,6 @@ all_shown known last a (x ∷ xs) h = (later_shown known last a x h, all_shown k
 module _ (p : Program) (n : ℕ) (typed : IsProgram p n) (w w' : World) (goes : IsTypedWorld p w) (enters : Enters p w w') (agains : Agains p w w') (known : Objects) (last : ℕ) (fr : Frame) (ss : Stmts) (r : CType) (o : Objects) (st : State) (l : Memory) (s : IsTypedFrame p o fr) (h : AreStmts p fr.types r false false ss) (m : StandsIn p (mentions_of_stmts ss)) (k : Now known last p o st l) (above : last < fr.activation) (begun : fr.activation ≤ st.entries) (only : (j : ℕ) → length fr.types ≤ j → o (name_in fr false j) ≡ None) where
   abbrev limit : ℕ
   limit = length fr.types + length (kept_of_stmts p ss)
-
-  abbrev wide : List CType
-  wide = fr.types ++ kept_of_stmts p ss
 
   abbrev wider_frame : Frame
   wider_frame = record { activation = fr.activation; types = fr.types ++ kept_of_stmts p ss }
@@ -190,7 +184,7 @@ module _ (p : Program) (n : ℕ) (typed : IsProgram p n) (w w' : World) (goes : 
 
   pub block_alike : DoesAlike {A = Exit} known last l (exec p w (null_calls_of p) fr (block ss) st) (exec (instrumented_program p) w' no_marks wider_frame (body_from p (length fr.types) ss) (with_memory st l))
   block_alike =
-      subst (λ q. DoesAlike {A = Exit} known last l (leaving fr (declared_in ss) (exec_all p w (null_calls_of p) fr ss st)) (leaving wider_frame (declared_in (declared_from p (length fr.types) (kept_of_stmts p ss) (stmts p (length fr.types) ss))) q)) (sym after_declarations) (leaving_alike _ _ (stmts_end p n typed (null_calls_of p) (null_calls_recorded p) w goes fr r false false ss o st s h m k.state) (stmts_do p n typed w w' goes enters agains o fr limit wide only (λ x t e. get_left fr.types (kept_of_stmts p ss) x t e) (length fr.types) r false false ss o st inside s h m (omega arith, omega arith) ready))
+      subst (λ q. DoesAlike {A = Exit} known last l (leaving fr (declared_in ss) (exec_all p w (null_calls_of p) fr ss st)) (leaving wider_frame (declared_in (declared_from p (length fr.types) (kept_of_stmts p ss) (stmts p (length fr.types) ss))) q)) (sym after_declarations) (leaving_alike _ _ (stmts_end p n typed (null_calls_of p) (null_calls_recorded p) w goes fr r false false ss o st s h m k.state) (stmts_do p n typed w w' goes enters agains o fr limit (fr.types ++ kept_of_stmts p ss) only (λ x t e. get_left fr.types (kept_of_stmts p ss) x t e) (length fr.types) r false false ss o st inside s h m (omega arith, omega arith) ready))
 
 -- the body of a function, which is a block
 pub body_alike : (p : Program) (n : ℕ) (typed : IsProgram p n) (w w' : World) (goes : IsTypedWorld p w) (enters : Enters p w w') (agains : Agains p w w') (known : Objects) (last : ℕ) (fr : Frame) (b : Stmt) (r : CType) (o : Objects) (st : State) (l : Memory) → IsBlock b → IsTypedFrame p o fr → IsStmt p fr.types r false false b → StandsIn p (mentions_of_stmt b) → Now known last p o st l → last < fr.activation → fr.activation ≤ st.entries → ((j : ℕ) → length fr.types ≤ j → o (name_in fr false j) ≡ None) → DoesAlike {A = Exit} known last l (exec p w (null_calls_of p) fr b st) (exec (instrumented_program p) w' no_marks (record { activation = fr.activation; types = fr.types ++ kept_of_stmt p b }) (body_from p (length fr.types) (items_of p b)) (with_memory st l))

@@ -34,13 +34,14 @@ use Rattle.c_meaning_laws.proofs.Together.{Whenever, Now, alike_on, Does as Alik
 use Rattle.c_meaning_laws.proofs.Expressions.{defined_at, zip_shown}
 use Rattle.null_calls_rules.specs.MarkedRuns.{null_calls_of}
 use Rattle.null_calls_rules.proofs.Lists.{is_first}
+use Rattle.null_calls_rules.proofs.Marking.{marks_if}
 use Rattle.c_shapes.proofs.SitesSaid.{callee_found}
 use Rattle.null_calls_rules.proofs.TypedRuns.{null_calls_recorded}
 use Rattle.null_calls_rules.specs.Temporaries.{is_kept}
 use Rattle.null_calls_rules.specs.InstrumentedPrograms.{keep, kept_value, keep_all, null_call, call_and_post, pre_number, post_number, instrumented_program}
 use Rattle.null_calls_runs_laws.specs.Pieces.{IsKept, IsSet}
 use Rattle.null_calls_runs_laws.proofs.PieceLemmas.{null_calls_are_events, keeping_sets, kept_is_given, shapes_stay}
-use Rattle.null_calls_runs_laws.proofs.Beside.{Same, same_for, StayBut, Does, here, after_does, later_does, stays_wider, wider, lift, Here, then_same}
+use Rattle.null_calls_runs_laws.proofs.Beside.{Same, same_for, StayBut, Does, here, after_does, later_does, stays_wider, wider, lift, Here, later_here, then_same}
 
 -- ## Memory with one object changed
 
@@ -93,9 +94,6 @@ call_more number site false t k e = tt
 -- ## Null calls
 
 -- the events round a call, where it is marked or not
-abbrev pub marks_if : ℕ → Bool → List Event × List Event
-marks_if site b = if b then (Pre site ∷ [], Post site ∷ []) else ([], [])
-
 pub marks_at : (p : Program) (n : ℕ) → IsProgram p n → (site : ℕ) (c : Callee) (b : Bool) → StandsIn p (Calls site c ∷ []) → is_marked p c ≡ b → null_calls_of p site ≡ marks_if site b
 marks_at p n typed site c b stands e =
     ap (marks_if site) (ap (marked_where p) (callee_found p n typed site c (stands (Calls site c) (is_first (Calls site c) []))) ∙ e)
@@ -159,15 +157,7 @@ module _ (p : Program) (w' : World) (known : Objects) (fr : Frame) (limit : ℕ)
   keep_then {B} owed k m i j ok t o st more (Stop c u) e f g km mi mj first less n ends h next =
       ap (λ r. then_do (after [] (then_do r (λ v st. remembered (store_place st.memory (place (name_in fr false i) 0 (cells p.structs t)) v) v st))) (λ y st. g st)) h
   keep_then {B} owed k m i j ok t o st more (Go x z u) e f g km mi mj first less n ends h next =
-      subst (λ q. Does known fr limit {A = B} owed k more (after u (f x z)) (then_do q (λ y st. g st))) (sym keeps) (after_does known fr limit {A = B} owed k more u (f x z) (g (with_memory z (kept_in fr i x h.left))) (later_does known fr limit {A = B} owed k more (kept_in fr i x h.left) (f x z) (g (with_memory z (kept_in fr i x h.left))) (stays_wider known fr limit k m more (kept_in fr i x h.left) km stay) (next ends.0 x z (kept_in fr i x h.left) ends.1 ends.2 (changed_there h.left (name_in fr false i) _) stay (record {
-        now = record {
-          state = ends.3;
-          tells = alike_on fr.activation st.entries known o ends.0 n.now.started n.now.tells ends.5;
-          started = let a = n.now.started in let b = ends.6 in omega (arith, a, b);
-          beside = λ y shown. changed_elsewhere h.left (name_in fr false i) y _ (λ s. shown (subst (IsHidden known fr.activation) s (omega arith, untold i first))) ∙ h.beside y shown;
-        };
-        ready = λ a b c. ready a b c (same_name (name_in fr false i) (name_in fr false a));
-      }))))
+      subst (λ q. Does known fr limit {A = B} owed k more (after u (f x z)) (then_do q (λ y st. g st))) (sym keeps) (after_does known fr limit {A = B} owed k more u (f x z) (g (with_memory z (kept_in fr i x h.left))) (later_does known fr limit {A = B} owed k more (kept_in fr i x h.left) (f x z) (g (with_memory z (kept_in fr i x h.left))) (stays_wider known fr limit k m more (kept_in fr i x h.left) km stay) (next ends.0 x z (kept_in fr i x h.left) ends.1 ends.2 (changed_there h.left (name_in fr false i) _) stay (later_here known fr limit p {A = Value} ok o st more (kept_in fr i x h.left) x z u n ends (λ y shown. changed_elsewhere h.left (name_in fr false i) y _ (λ s. shown (subst (IsHidden known fr.activation) s (omega arith, untold i first))) ∙ h.beside y shown) (λ a b c. ready a b c (same_name (name_in fr false i) (name_in fr false a)))))))
     where
       keeps : Instrumented false (keep t i e) (with_memory st more) ≡ Go x (with_memory z (kept_in fr i x h.left)) u
       keeps =

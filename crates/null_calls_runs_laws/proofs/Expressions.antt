@@ -1,6 +1,7 @@
 -- Expressions with null calls round their marked calls do what the expressions do.
-use Rattle.std.proofs.Common.{◌≡◌, ℕ, suc, ◌+◌, ◌≤◌, ◌<◌, if◌then◌else◌, Bool, true, false, List, [], ◌∷◌, ◌++◌, length, Some, None, sym, ap, ◌∙◌, subst, refl, arith}
+use Rattle.std.proofs.Common.{◌≡◌, ℕ, suc, ◌+◌, ◌≤◌, ◌<◌, if◌then◌else◌, Bool, true, false, List, [], ◌∷◌, ◌++◌, All, length, Some, None, sym, ap, ◌∙◌, subst, refl, arith}
 use Rattle.std.proofs.lemmas.List.{length-append}
+use Rattle.std.proofs.lemmas.List.Elements.{All-head, All-tail}
 use Rattle.c_tree.specs.declared.value.Value.{Value}
 use Rattle.c_tree.specs.declared.value.Value.TheVariants.{Indeterminate, Func}
 use Rattle.c_tree.specs.Tree.{CType, pointer, function, CTypes, no_types, more_types, list_of, Program, type_of}
@@ -23,7 +24,7 @@ use Rattle.c_meaning.specs.Runs.{no_marks}
 use Rattle.c_meaning_laws.specs.StoreTyping.{HasKind, IsPlaced, Grows, IsTypedFrame}
 use Rattle.c_meaning_laws.specs.TypedResults.{EndsTyped, Gives, GiveAll, StandsIn, IsTypedWorld}
 use Rattle.c_meaning_laws.proofs.Places.{grows_on, grows_none, carry, carry_given}
-use Rattle.c_meaning_laws.proofs.Steps.{load_place_right, update_scalar}
+use Rattle.c_meaning_laws.proofs.Steps.{scalars_of, load_place_right, update_scalar}
 use Rattle.c_meaning_laws.proofs.Keeps.{Holds, scalar_kind, stands_on, arguments_kind, called_ends, callee_ends, value_ends, where_ends, all_end, condition_tested}
 use Rattle.c_meaning_laws.proofs.Standing.{left_part, right_part}
 use Rattle.c_meaning_laws.specs.FurtherObjects.{DoesAlike}
@@ -37,7 +38,7 @@ use Rattle.null_calls_rules.specs.InstrumentedPrograms.{parameters_where, parame
 use Rattle.null_calls_runs_laws.specs.Pieces.{IsKept, IsSet, AreKept}
 use Rattle.null_calls_runs_laws.proofs.PieceLemmas.{kept_is_given, kept_are_given, types_stay}
 use Rattle.null_calls_runs_laws.proofs.Beside.{after_none, then_then, then_go, same_for, StayBut, Does, here, after_does, wider, loose, lift, either_does, answered_then, Here, then_does, then_same}
-use Rattle.null_calls_runs_laws.proofs.Scalars.{AreScalars, some_callee, scalars_of_call}
+use Rattle.null_calls_runs_laws.proofs.Scalars.{some_callee}
 use Rattle.null_calls_runs_laws.proofs.Calls.{set_of, wants_kept, IsMore, keep_all_more, each_more, marks_at, Enters, called_alike, callee_alike, Instrumented, Each, keep_then, call_does}
 
 -- ## Numbers of temporaries
@@ -315,19 +316,19 @@ module _ (p : Program) (n : ℕ) (typed : IsProgram p n) (w w' : World) (goes : 
     value_does k wanted (comma t es) o st more s h m r a = each_does k wanted t es o st more s h m r a
     value_does k wanted (call t site f es) o st more s h m r a =
         let mine = right_part p (Calls site (Direct f) ∷ []) (mentions_of_all es) m in
-        direct_does k wanted t site f es o st more s h.0 h.1 h.2 m r a (λ room. all_do k h.0 es o st more s h.2 mine room a) (λ j kj room. kept_do k k j h.0 es o st more s h.2 (scalars_of_call p n typed f t h.0 h.1) mine (omega arith) kj r.0 room a)
+        direct_does k wanted t site f es o st more s h.0 h.1 h.2 m r a (λ room. all_do k h.0 es o st more s h.2 mine room a) (λ j kj room. kept_do k k j h.0 es o st more s h.2 (scalars_of p n typed f t h.0 h.1) mine (omega arith) kj r.0 room a)
     value_does k wanted (call_through t site d es) o st more s h m r a =
-        through_does k wanted t site d es o st more s h.0 h.1 h.2 h.3 m r a (λ room. value_does k true d o st more s h.2 (left_part p (mentions d) (Calls site (Through (type_of d)) ∷ mentions_of_all es) m) room a) (λ u st l s a room. all_do (next k d) h.0 es u st l s h.3 (through_stands site d es m).1 room a) (λ i j marked u st l ki ij first room s a. kept_do k i j h.0 es u st l s h.3 (let c = some_callee p n typed (function t h.0) (subst (λ v. is_marked p (Through v) ≡ true) h.1 marked) in scalars_of_call p n typed c.0 t h.0 c.1) (through_stands site d es m).1 ki ij first room a)
+        through_does k wanted t site d es o st more s h.0 h.1 h.2 h.3 m r a (λ room. value_does k true d o st more s h.2 (left_part p (mentions d) (Calls site (Through (type_of d)) ∷ mentions_of_all es) m) room a) (λ u st l s a room. all_do (next k d) h.0 es u st l s h.3 (through_stands site d es m).1 room a) (λ i j marked u st l ki ij first room s a. kept_do k i j h.0 es u st l s h.3 (let c = some_callee p n typed (function t h.0) (subst (λ v. is_marked p (Through v) ≡ true) h.1 marked) in scalars_of p n typed c.0 t h.0 c.1) (through_stands site d es m).1 ki ij first room a)
     value_does k wanted _ o st more s h m r a = absurd h
 
     pub place_does : (k : ℕ) (wanted : Bool) (e : Expr) (o : Objects) (st : State) (more : Memory) → IsTypedFrame p o fr → IsPlace p fr.types e → StandsIn p (mentions e) → Room k (kept p wanted e) → At o st more → Do {A = Value} true k more (Plain wanted e st) (Other wanted (expr p k wanted e) (with_memory st more))
     place_does k wanted (function_name t f) o st more s h m r a = done true k (Func f) o st more a
-    place_does k wanted (string_place t x) o st more s h m r a = done true k _ o st more a
-    place_does k wanted (variable t b x) o st more s h m r a = done true k _ o st more a
     place_does k wanted (dereference t e) o st more s h m r a =
         on_value {C = Value} true k e (expr p k true e) o st more _ _ s h.2 m a (value_does k true e o st more s h.2 m r a) (λ u x st l g i a. step true k (behind_of t st.memory x) (behind_of t l x) u st l (behind_of_same st.memory l t x (value_seen u (type_of e) x st l i a)) a)
     place_does k wanted (field t first e) o st more s h m r a =
         on_place {C = Value} true k e (expr p k true e) o st more _ _ s h.1 m a (place_does k true e o st more s h.1 m r a) (λ u x st l g i a. step true k (member first (cells p.structs t) x) (member first (cells p.structs t) x) u st l refl a)
+    place_does k wanted (string_place t x) o st more s h m r a = done true k _ o st more a
+    place_does k wanted (variable t b x) o st more s h m r a = done true k _ o st more a
     place_does k wanted _ o st more s h m r a = absurd h
 
     pub each_does : (k : ℕ) (wanted : Bool) (t : CType) (es : Exprs) (o : Objects) (st : State) (more : Memory) → IsTypedFrame p o fr → AreMembers p fr.types t es → StandsIn p (mentions_of_all es) → Room k (kept_of_members p wanted es) → At o st more → Do {A = Value} wanted k more (eval_each p w (null_calls_of p) fr wanted es st) (OtherEach wanted (members p k wanted es) (with_memory st more))
@@ -344,7 +345,7 @@ module _ (p : Program) (n : ℕ) (typed : IsProgram p n) (w w' : World) (goes : 
         on_value {C = List Value} true k e (expr p k true e) o st more _ _ s h.1 (left_part p (mentions e) (mentions_of_all es) m) a (value_does k true e o st more s h.1 (left_part p (mentions e) (mentions_of_all es) m) (fits_left _ _ k (kept p true e) (kept_of_all p es) r) a) (λ u x st l g i a. then_same known fr limit p {A = List Value} {B = List Value} true k (GiveAll p (list_of ts)) u st l _ _ _ _ a (all_end p n typed (null_calls_of p) (null_calls_recorded p) w goes fr ts es u st (on_frame o u g s) h.2 mine a.now.state) (wider known fr limit {A = List Value} true k (next k e) l _ _ (from_here k _) (all_do (next k e) ts es u st l (on_frame o u g s) h.2 mine (fits_right _ _ k (kept p true e) (kept_of_all p es) r) a)) (λ u vs st l g z a. here known fr limit {A = List Value} true k (x ∷ vs) (x ∷ vs) st l [] refl a.now.beside a.ready))
     all_do k ts es o st more s h m r a = absurd h
 
-    kept_do : (k i j : ℕ) (ts : CTypes) (es : Exprs) (o : Objects) (st : State) (more : Memory) → IsTypedFrame p o fr → AreArguments p fr.types ts es → AreScalars (list_of ts) → StandsIn p (mentions_of_all es) → k ≤ i → i + length (list_of ts) ≤ j → length fr.types ≤ i → Room j (kept_of_all p es) → At o st more → KeepsAll k i j ts es o st more
+    kept_do : (k i j : ℕ) (ts : CTypes) (es : Exprs) (o : Objects) (st : State) (more : Memory) → IsTypedFrame p o fr → AreArguments p fr.types ts es → All IsScalar (list_of ts) → StandsIn p (mentions_of_all es) → k ≤ i → i + length (list_of ts) ≤ j → length fr.types ≤ i → Room j (kept_of_all p es) → At o st more → KeepsAll k i j ts es o st more
     kept_do k i j no_types no_exprs o st more s h c m ki ij first r a owed wanted rest f is_more next =
         subst (λ d. Do {A = Value} owed k more d (OtherEach wanted rest (with_memory st more))) (sym (after_none {A = Value} (f [] st))) (next o [] st more (grows_none o) tt tt (λ x hid out. refl) a)
     kept_do k i j (more_types t ts) (more_exprs e es) o st more s h c m ki ij first r a owed wanted rest f is_more next =
@@ -352,7 +353,7 @@ module _ (p : Program) (n : ℕ) (typed : IsProgram p n) (w w' : World) (goes : 
         let low = r.0 in
         let high = r.1 in
         let ij : i + suc (length (list_of ts)) ≤ j = ij in
-        keeps_first k i j t ts e es o st more s h.1 (left_part p (mentions e) (mentions_of_all es) m) h.0 c.0 ki (omega (arith, ij, high)) first (omega (arith, ij)) a (value_does j true e o st more s h.1 (left_part p (mentions e) (mentions_of_all es) m) (fits_left _ _ j (kept p true e) (kept_of_all p es) r) a) (λ u st l s a. kept_do k (suc i) (j + length (kept p true e)) ts es u st l s h.2 c.1 mine (omega (arith, ki)) (omega (arith, ij)) (omega (arith, first)) (fits_right _ _ j (kept p true e) (kept_of_all p es) r) a) owed wanted rest f is_more next
+        keeps_first k i j t ts e es o st more s h.1 (left_part p (mentions e) (mentions_of_all es) m) h.0 (All-head IsScalar t (list_of ts) c) ki (omega (arith, ij, high)) first (omega (arith, ij)) a (value_does j true e o st more s h.1 (left_part p (mentions e) (mentions_of_all es) m) (fits_left _ _ j (kept p true e) (kept_of_all p es) r) a) (λ u st l s a. kept_do k (suc i) (j + length (kept p true e)) ts es u st l s h.2 (All-tail IsScalar t (list_of ts) c) mine (omega (arith, ki)) (omega (arith, ij)) (omega (arith, first)) (fits_right _ _ j (kept p true e) (kept_of_all p es) r) a) owed wanted rest f is_more next
     kept_do k i j ts es o st more s h c m ki ij first r a owed wanted rest f is_more next = absurd h
 
   -- a value that is tested

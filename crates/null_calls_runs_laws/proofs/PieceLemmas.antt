@@ -49,8 +49,7 @@ module _ (p : Program) where
   same_count k (more_groups ls ss gs) = ap suc (same_count (k + length (kept_of_stmts p ss)) gs)
 
   same_selected : (k : ℕ) (v : Value) (gs : Groups) → selected v (groups p k gs) ≡ selected v gs
-  same_selected k v gs =
-      ap (λ g. or_else g (or_else (group_with is_default (groups p k gs)) (count_groups (groups p k gs)))) (same_group (is_case v) k gs) ∙ (ap (λ g. or_else (group_with (is_case v) gs) (or_else g (count_groups (groups p k gs)))) (same_group is_default k gs) ∙ ap (λ n. or_else (group_with (is_case v) gs) (or_else (group_with is_default gs) n)) (same_count k gs))
+  same_selected k v gs = rw (same_group (is_case v) k gs, same_group is_default k gs, same_count k gs) refl
 
   -- ## Types
 

@@ -15,7 +15,7 @@ use Rattle.c_meaning.specs.Meaning.{Frame, Loop, World, name_in, condition, perh
 use Rattle.c_meaning.specs.NullCalls.{DifferInNullCalls}
 use Rattle.c_meaning.specs.Results.{State, with_memory, Result, Go, Stop, then_do, Exit, on, on_round}
 use Rattle.c_meaning.specs.Runs.{no_marks, with_parameters, parameters, entered, run_body, enter, loop, world, beginning, ending, run}
-use Rattle.c_meaning_laws.specs.StoreTyping.{HasKind, IsTypedMemory, Grows, TellsOfStatics, IsTypedFrame}
+use Rattle.c_meaning_laws.specs.StoreTyping.{HasKind, IsTypedAfter, Grows, TellsOfStatics, IsTypedFrame}
 use Rattle.c_meaning_laws.specs.TypedResults.{IsExit, StandsIn, StandsRound, IsTypedWorld}
 use Rattle.c_meaning_laws.proofs.Places.{grows_on}
 use Rattle.c_meaning_laws.proofs.Keeps.{Holds, condition_ends, perhaps_ends, exec_ends}
@@ -40,11 +40,7 @@ use Rattle.null_calls_runs_laws.proofs.Bodies.{body_alike}
 
 spent : (known : Objects) (last : ℕ) (p : Program) (o : Objects) (st st' : State) (more : Memory) → st'.memory ≡ st.memory → st'.entries ≡ st.entries → Now known last p o st more → Now known last p o st' more
 spent known last p o st st' more m e k = record {
-  state = record {
-    memory = subst (λ m. IsTypedMemory p o m) (sym m) k.state.memory;
-    few = k.state.few;
-    later = subst (λ n. (x : ObjectName) → n < x.activation → o x ≡ None) (sym e) k.state.later;
-  };
+  state = subst (λ m. IsTypedAfter p o m st'.entries) (sym m) (subst (λ n. IsTypedAfter p o st.memory n) (sym e) k.state);
   tells = k.tells;
   started = subst (λ n. last ≤ n) (sym e) k.started;
   beside = subst (λ m. IsBeside known last m more) (sym m) k.beside;
