@@ -1,9 +1,8 @@
 -- The body of a function with its temporaries does what the body does: no object of the activation is left behind.
-use Rattle.std.proofs.Common.{◌≡◌, ◌⊎◌, inl, inr, ℕ, suc, ◌+◌, ◌≤◌, ◌<◌, nat_eq, nat_lt, not, ◌&&◌, Bool, true, false, List, [], ◌∷◌, ◌++◌, All, length, replicate, Option, Some, None, sym, ap, ◌∙◌, subst, refl, arith, true≢false}
+use Rattle.std.proofs.Common.{◌≡◌, ◌⊎◌, inl, inr, ℕ, suc, ◌+◌, ◌≤◌, ◌<◌, nat_eq, nat_lt, not, ◌&&◌, Bool, true, false, List, [], ◌∷◌, ◌++◌, All, length, replicate, Option, Some, None, sym, ap, ◌∙◌, subst, refl, arith}
 use Rattle.std.proofs.Math.Nat.{eq-or-lt_of_le}
 use Rattle.std.proofs.lemmas.Bool.Decides.{nat_tests}
 use Rattle.std.proofs.lemmas.List.Elements.{All-head, All-tail}
-use Rattle.std.specs.Cmp.{nat_eq_equiv}
 use Rattle.c_tree.specs.declared.value.ObjectName.{ObjectName}
 use Rattle.c_tree.specs.declared.value.Value.TheVariants.{Indeterminate}
 use Rattle.c_tree.specs.Tree.{CType, integer, pointer, Program}
@@ -29,7 +28,7 @@ use Rattle.c_meaning_laws.proofs.Together.{Now}
 use Rattle.c_meaning_laws.proofs.Statements.{AreShown, without_beside, without_stays}
 use Rattle.c_meaning_laws.proofs.FurtherWorlds.{later_shown}
 use Rattle.null_calls_rules.specs.MarkedRuns.{null_calls_of}
-use Rattle.null_calls_rules.proofs.Lists.{below, not_below, no_some, if_has}
+use Rattle.null_calls_rules.proofs.Lists.{not_below, if_has}
 use Rattle.null_calls_rules.proofs.TypedRuns.{null_calls_recorded}
 use Rattle.null_calls_rules.specs.InstrumentedPrograms.{kept_of_stmt, kept_of_stmts, stmts, declared_from, items_of, body_from, instrumented_program}
 use Rattle.null_calls_runs_laws.specs.Pieces.{declaring}
@@ -167,13 +166,11 @@ module _ (p : Program) (n : ℕ) (typed : IsProgram p n) (w w' : World) (goes : 
       stays x hid = let a = hid.0 in still x (inner x hid) (λ e b c. omega (arith, e, a, above))
 
       at : (x : ObjectName) → (IsHidden known last x → ⊥) → (b : Bool) (c : Option (List CType)) → nat_lt fr.activation x.activation ≡ b → o x ≡ c → Own fr.activation (length fr.types) (length (kept_of_stmts p ss)) x → outside d.left x ≡ z.memory x
-      at x shown true c e f out =
-          all_elsewhere no_object fr.activation (length fr.types) (kept_of_stmts p ss) d.left x out ∙ d.beside x (λ hid. let a = hid.0 in let b = below fr.activation x.activation e in omega (arith, a, b))
-      at x shown false (Some ts) e f out =
-          all_elsewhere no_object fr.activation (length fr.types) (kept_of_stmts p ss) d.left x out ∙ d.beside x (λ hid. no_some ts (sym hid.1 ∙ f))
       at x shown false None e f out =
           let a = not_below fr.activation x.activation e in
           still x (a, f) out ∙ (k.beside x shown ∙ (typed_none p o st.memory x k.state.memory f ∙ sym (nothing x a f)))
+      at x shown b c e f out =
+          all_elsewhere no_object fr.activation (length fr.types) (kept_of_stmts p ss) d.left x out ∙ d.beside x (λ hid. absurd (grind (arith, nat_tests, hid, e, f)))
 
       beside : IsBeside known last z.memory (outside d.left)
       beside x shown = elim (own_or_not fr.activation (length fr.types) (length (kept_of_stmts p ss)) x) as (λ c. outside d.left x ≡ z.memory x) [

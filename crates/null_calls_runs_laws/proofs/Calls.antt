@@ -3,7 +3,6 @@ use Rattle.std.proofs.Common.{◌≡◌, ℕ, ◌-◌, ◌≤◌, ◌<◌, nat_l
 use Rattle.std.specs.List.{AllZip}
 use Rattle.std.proofs.lemmas.Bool.{false≢true, false_from_ne_true}
 use Rattle.std.proofs.lemmas.Bool.Decides.{nat_tests}
-use Rattle.dm_base.specs.declared.event.Event.{Event}
 use Rattle.dm_base.specs.declared.event.Event.TheVariants.{Pre, Post}
 use Rattle.c_tree.specs.declared.value.ObjectName.{ObjectName}
 use Rattle.c_tree.specs.declared.value.Value.{Value}
@@ -30,7 +29,7 @@ use Rattle.c_meaning_laws.proofs.Places.{get_left}
 use Rattle.c_meaning_laws.proofs.Steps.{Right, IsCallee, callee_right}
 use Rattle.c_meaning_laws.proofs.Keeps.{arguments_kind}
 use Rattle.c_meaning_laws.specs.FurtherObjects.{IsHidden, DoesAlike}
-use Rattle.c_meaning_laws.proofs.Together.{Whenever, Now, alike_on, Does as Alike, undefined_does, alone_does, answered_then as then_alike}
+use Rattle.c_meaning_laws.proofs.Together.{Whenever, Now, Does as Alike, undefined_does, alone_does, answered_then as then_alike}
 use Rattle.c_meaning_laws.proofs.Expressions.{defined_at, zip_shown}
 use Rattle.null_calls_rules.specs.MarkedRuns.{null_calls_of}
 use Rattle.null_calls_rules.proofs.Lists.{is_first}

@@ -1,5 +1,5 @@
 -- What the pieces of a marked call do.
-use Rattle.std.proofs.Common.{◌≡◌, ℕ, suc, ◌+◌, ◌*◌, ◌-◌, ◌≤◌, if◌then◌else◌, Bool, true, false, List, [], ◌∷◌, ◌++◌, Some, option_map, slice_get, length, append-nil, ap, ◌∙◌, subst, refl, arith}
+use Rattle.std.proofs.Common.{◌≡◌, ℕ, suc, ◌+◌, ◌*◌, ◌-◌, if◌then◌else◌, Bool, true, false, List, [], ◌∷◌, ◌++◌, Some, option_map, slice_get, length, append-nil, ap, ◌∙◌, subst, refl, arith}
 use Rattle.std.specs.List.{list_any}
 use Rattle.std.proofs.lemmas.List.{length-map}
 use Rattle.std.proofs.lemmas.Option.{slice_get-map}
@@ -18,7 +18,7 @@ use Rattle.c_values.specs.Answers.{gives, and_then}
 use Rattle.c_values.specs.Memory.{there, element, cell_value, writable, set_cell, changed, declared}
 use Rattle.c_shapes.specs.Mentions.{Direct, Through}
 use Rattle.c_shapes.specs.CallGraph.{is_marked}
-use Rattle.c_meaning.specs.Meaning.{Frame, World, name_in, wants, call_undefined, called, eval_all, fresh, initialise, exec_all, declared_by, declared_in, is_case, is_default, group_with, count_groups, or_else, selected}
+use Rattle.c_meaning.specs.Meaning.{Frame, World, name_in, wants, call_undefined, called, eval_all, fresh, initialise, exec_all, declared_by, declared_in, is_case, is_default, group_with, count_groups, selected}
 use Rattle.c_meaning.specs.Pointers.{store_place}
 use Rattle.c_meaning.specs.Results.{State, with_memory, Go, after, then_do, answered, remembered, Exit, on_exit}
 use Rattle.null_calls_rules.proofs.Lists.{isnt_below, if_has}
@@ -83,9 +83,8 @@ module _ (p : Program) where
   null_called : (w : World) (wanted : Bool) (x : ℕ) (vs : List Value) (st : State) → called (instrumented_program p) w wanted (defined p + x) vs st ≡ call_undefined x vs st
   null_called w wanted x vs st =
       let e = many in
-      let past : defined (instrumented_program p) ≤ defined p + x = omega (arith, e) in
       let number : defined p + x - defined (instrumented_program p) ≡ x = omega (arith, e) in
-      ap (λ b. if b then w.enter wanted (defined p + x) vs st else call_undefined (defined p + x - defined (instrumented_program p)) vs st) (isnt_below (defined p + x) (defined (instrumented_program p)) past) ∙ ap (λ x. call_undefined x vs st) number
+      rw (isnt_below (defined p + x) (defined (instrumented_program p)) (omega (arith, e)), number) refl
 
 pub null_calls_are_events : NullCallsAreEvents
 null_calls_are_events p w fr wanted site st =

@@ -1,22 +1,20 @@
 -- The temporaries of a well-typed program's marked calls have scalar types: each is one cell.
-use Rattle.std.proofs.Common.{◌≡◌, ℕ, Bool, true, false, ◌&&◌, List, [], ◌∷◌, ◌++◌, map, All, Option, Some, None, slice_get, sym, ap, ◌∙◌, subst, refl, ◌-◌, nat_lt, append_assoc}
+use Rattle.std.proofs.Common.{◌≡◌, ℕ, Bool, true, false, List, [], ◌∷◌, ◌++◌, map, All, Some, slice_get, sym, ap, ◌∙◌, subst, refl, ◌-◌, nat_lt, append_assoc}
 use Rattle.std.proofs.lemmas.Bool.{false≢true}
 use Rattle.std.specs.List.{list_all}
 use Rattle.std.proofs.lemmas.List.Elements.{All-nil, All-cons, All-append, All-contains}
-use Rattle.std.proofs.lemmas.List.Folds.{list_all-append}
 use Rattle.std.proofs.lemmas.List.Sums.{AllPass-from_list_all}
 use Rattle.c_tree.specs.declared.value.IntType.{IntType}
-use Rattle.c_tree.specs.Tree.{CType, void, integer, pointer, function, CTypes, no_types, more_types, list_of, Function, Program, type_of}
+use Rattle.c_tree.specs.Tree.{CType, void, integer, pointer, function, CTypes, no_types, more_types, list_of, Program, type_of}
 use Rattle.c_tree.specs.Tree.{Expr, constant, function_name, string_place, variable, dereference, load, address_of, decay, discard, field, unary_operation, conversion, arithmetic, comparison, pointer_add, pointer_diff, and, or, assign, update, conditional, comma, call, call_through}
 use Rattle.c_tree.specs.Tree.{Exprs, no_exprs, more_exprs, Maybe, absent, there, Inits, no_inits, more_inits}
 use Rattle.c_tree.specs.Tree.{Stmt, block, evaluate, declare, if_else, while_loop, do_loop, for_loop, switch_on, return_value, Stmts, no_stmts, more_stmts, Groups, no_groups, more_groups}
-use Rattle.c_tree.specs.Functions.{defined, sys_types, null_types, type_of_defined, value_types, called_types, value_type, called_type}
+use Rattle.c_tree.specs.Functions.{defined, sys_types, null_types, type_of_defined, value_types, called_type}
 use Rattle.c_tree.specs.Operands.{IsScalar, IsResult}
 use Rattle.c_tree.specs.Program.{IsFunction, IsProgram}
 use Rattle.c_tree.specs.Typed.{IsValue, IsPlace, AreMembers, AreArguments, IsTest, IsStep, AreInits, AreFirst, IsStmt, AreStmts, AreGroups}
 use Rattle.c_shapes.specs.Mentions.{Direct, Through}
-use Rattle.c_shapes.specs.CallGraph.{is_taken, is_typed, functions_of, callees, reaches, is_marked}
-use Rattle.c_shapes.proofs.SameTypes.{types_tell}
+use Rattle.c_shapes.specs.CallGraph.{callees, reaches, is_marked}
 use Rattle.c_meaning_laws.proofs.Places.{get_left}
 use Rattle.c_meaning_laws.proofs.Steps.{scalars_of}
 use Rattle.c_meaning_laws.proofs.Keeps.{defined_at, undefined_at}
@@ -24,7 +22,6 @@ use Rattle.null_calls_rules.proofs.Lists.{below, not_below, if_has, got_in, one_
 use Rattle.null_calls_rules.proofs.Places.{through_type}
 use Rattle.null_calls_rules.specs.Temporaries.{is_kept}
 use Rattle.null_calls_rules.specs.InstrumentedPrograms.{parameters_where, of_result, of_direct, of_through, kept, kept_of_all, kept_of_members, kept_of_maybe, kept_of_inits, kept_of_stmt, kept_of_stmts, kept_of_groups}
-use Rattle.c_shapes.proofs.Members.{and_both}
 
 -- a function that gives a scalar or nothing
 abbrev gives_result : CType → Bool

@@ -3,7 +3,7 @@ use Rattle.std.proofs.Common.{◌≡◌, ℕ, zero, suc, ◌+◌, ◌≤◌, Boo
 use Rattle.c_tree.specs.declared.value.IntType.{IntType}
 use Rattle.c_tree.specs.declared.value.Value.{Value}
 use Rattle.c_tree.specs.Tree.{CType, Expr, Program, type_of, absent, there, Inits, no_inits, more_inits}
-use Rattle.c_tree.specs.Tree.{Stmt, block, empty, evaluate, declare, if_else, while_loop, do_loop, for_loop, switch_on, break_off, continue_on, return_void, return_value, Stmts, no_stmts, more_stmts, Groups, no_groups, more_groups}
+use Rattle.c_tree.specs.Tree.{Stmt, block, evaluate, declare, if_else, while_loop, do_loop, for_loop, switch_on, return_value, Stmts, no_stmts, more_stmts, Groups, no_groups, more_groups}
 use Rattle.c_tree.specs.Layout.{flat, cells}
 use Rattle.c_tree.specs.Kinds.{Objects}
 use Rattle.c_tree.specs.Program.{IsProgram}
@@ -13,7 +13,7 @@ use Rattle.c_values.specs.Memory.{Objects as Memory}
 use Rattle.c_shapes.specs.Mentions.{mentions, mentions_of_maybe, mentions_of_inits, mentions_of_stmt, mentions_of_stmts, mentions_of_groups}
 use Rattle.c_meaning.specs.Meaning.{Frame, Loop, World, name_in, initialise, fresh, declared_by, declared_in, without, leaving, selected, eval, exec, exec_all, exec_from}
 use Rattle.c_meaning.specs.Pointers.{place}
-use Rattle.c_meaning.specs.Results.{State, with_memory, Result, Go, Stop, then_do, Exit, on, broken, continued, returned, out_of_switch}
+use Rattle.c_meaning.specs.Results.{State, with_memory, Result, Go, Stop, then_do, Exit, on, returned, out_of_switch}
 use Rattle.c_meaning.specs.Runs.{no_marks}
 use Rattle.c_meaning_laws.specs.StoreTyping.{Grows, TellsAlike, IsTypedFrame}
 use Rattle.c_meaning_laws.specs.TypedResults.{IsExit, StandsIn, StandsRound, IsTypedWorld}
@@ -135,7 +135,6 @@ module _ (p : Program) (n : ℕ) (typed : IsProgram p n) (w w' : World) (goes : 
     pub exec_does : (k : ℕ) (r : CType) (breaks continues : Bool) (b : Stmt) (o : Objects) (st : State) (more : Memory) → IsTypedFrame p o fr → IsStmt p fr.types r breaks continues b → StandsIn p (mentions_of_stmt b) → Room k (kept_of_stmt p b) → At o st more → Do {A = Exit} more (PlainDo b st) (OtherDo (stmt p k b) (with_memory st more))
     exec_does k r breaks continues (block ss) o st more s h m room a =
         leaving_does (declared_in ss) (declared_in (stmts p k ss)) more _ _ ((shapes_stay p).variables k ss) (block_shown o r breaks continues ss s a.now.tells h) (stmts_do k r breaks continues ss o st more s h m room a)
-    exec_does k r breaks continues empty o st more s h m room a = done on o st more a
     exec_does k r breaks continues (evaluate e) o st more s h m room a = effect k e o st more s h m room a
     exec_does k r breaks continues (declare x is) o st more s h m room a = declare_does k r x is o st more s h m room a
     exec_does k r breaks continues (if_else e b c) o st more s h m room a =
@@ -169,11 +168,9 @@ module _ (p : Program) (n : ℕ) (typed : IsProgram p n) (w w' : World) (goes : 
         let rest = right_part p (mentions e) (mentions_of_groups gs) m in
         let i = k + length (kept p true e) in
         on_value p n typed w w' goes enters known fr limit wide untold {C = Exit} true (length fr.types) e (expr p k true e) o st more _ _ s h.3 mine a (value k true e o st more s h.3 mine (fits_left _ _ k (kept p true e) (kept_of_groups p gs) room) a) (λ u v st l g y a. subst (λ c. Do {A = Exit} l (then_do (exec_from p w (null_calls_of p) fr (selected v gs) gs st) (λ x st. Go (out_of_switch x) st [])) (then_do (exec_from (instrumented_program p) w' no_marks wider_frame c (groups p i gs) (with_memory st l)) (λ x st. Go (out_of_switch x) st []))) (sym ((shapes_stay p).selection i v gs)) (then_same known fr limit p {A = Exit} {B = Exit} true (length fr.types) (IsExit p r true continues) u st l _ _ _ _ a (groups_end p n typed (null_calls_of p) (null_calls_recorded p) w goes fr r continues h.0 (selected v gs) gs u st (framed o u g s) h.5 rest a.now.state) (groups_do i r continues h.0 (selected v gs) gs u st l (framed o u g s) h.5 rest (fits_right _ _ k (kept p true e) (kept_of_groups p gs) room) a) (λ u x st l g y a. done (out_of_switch x) u st l a)))
-    exec_does k r breaks continues break_off o st more s h m room a = done broken o st more a
-    exec_does k r breaks continues continue_on o st more s h m room a = done continued o st more a
-    exec_does k r breaks continues return_void o st more s h m room a = done (returned None) o st more a
     exec_does k r breaks continues (return_value e) o st more s h m room a =
         on_value p n typed w w' goes enters known fr limit wide untold {C = Exit} true (length fr.types) e (expr p k true e) o st more _ _ s h.2 m a (value k true e o st more s h.2 m room a) (λ u v st l g i a. done (returned (Some v)) u st l a)
+    exec_does k r breaks continues b o st more s h m room a = done _ o st more a
 
     pub stmts_do : (k : ℕ) (r : CType) (breaks continues : Bool) (ss : Stmts) (o : Objects) (st : State) (more : Memory) → IsTypedFrame p o fr → AreStmts p fr.types r breaks continues ss → StandsIn p (mentions_of_stmts ss) → Room k (kept_of_stmts p ss) → At o st more → Do {A = Exit} more (PlainDoAll ss st) (OtherDoAll (stmts p k ss) (with_memory st more))
     stmts_do k r breaks continues no_stmts o st more s h m room a = done on o st more a

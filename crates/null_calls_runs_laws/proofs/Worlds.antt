@@ -2,7 +2,6 @@
 use Rattle.std.proofs.Common.{◌≡◌, ℕ, zero, suc, ◌≤◌, ◌<◌, nat_eq, Bool, true, false, List, [], Some, None, slice_get, option_map, length, sym, ap, ◌∙◌, subst, refl, arith}
 use Rattle.std.specs.List.{AllZip}
 use Rattle.dm_base.specs.Trace.{erase}
-use Rattle.c_tree.specs.declared.value.ObjectName.{ObjectName}
 use Rattle.c_tree.specs.declared.value.Value.{Value}
 use Rattle.c_tree.specs.Tree.{CType, function, CTypes, no_types, list_of, Function, Program, Maybe, absent, there}
 use Rattle.c_tree.specs.Kinds.{Objects, static_objects}
@@ -53,18 +52,16 @@ module _ (p : Program) (n : ℕ) (typed : IsProgram p n) where
         let a = suc st.entries in
         let started = k.started in
         let above : last < suc st.entries = omega (arith, started) in
-        let begun : suc st.entries ≤ suc st.entries = omega arith in
         let b = opens p n typed f g r ts vs o st e d s z k.state in
         let inside = with_parameters a 0 vs more in
         let fr : Frame = record { activation = a; types = g.variables } in
-        let it : IsFunction p g = all_get (IsFunction p) p.functions f g typed.functions e in
         let now : Now known last p b.told (entered vs st) inside = record {
           state = b.state;
           tells = λ x l. b.alike x (omega (arith, l, started)) ∙ k.tells x l;
           started = omega (arith, started);
           beside = parameters_beside known last a 0 vs st.memory more k.beside;
         } in
-        later_alike known last {A = Value} more inside _ _ (parameters_stay known last a 0 vs more more above (λ y hid. refl)) (then_alike known last p {A = Exit} {B = Value} (IsExit p r false false) b.told (entered vs st) inside _ _ _ _ now (exec_ends p n typed (null_calls_of p) (null_calls_recorded p) w goes fr r false false g.body b.told (entered vs st) b.frame (body_typed p n typed f g r ts e d) (body_stands p f g e) b.state) (body_alike p n typed w w' goes enters agains known last fr g.body r b.told (entered vs st) inside it.body b.frame (body_typed p n typed f g r ts e d) (body_stands p f g e) now above begun b.only) (λ u x after l g' i k. later_alike known last {A = Value} l (without a (parameters 0 vs) l) _ _ (without_stays known last a (parameters 0 vs) l l (parameters_shown known last a 0 vs above) (λ y hid. refl)) (result_does known last is_main wanted x (with_memory after (without a (parameters 0 vs) after.memory)) (without a (parameters 0 vs) l) (without_beside known last a (parameters 0 vs) after.memory l k.beside))))
+        later_alike known last {A = Value} more inside _ _ (parameters_stay known last a 0 vs more more above (λ y hid. refl)) (then_alike known last p {A = Exit} {B = Value} (IsExit p r false false) b.told (entered vs st) inside _ _ _ _ now (exec_ends p n typed (null_calls_of p) (null_calls_recorded p) w goes fr r false false g.body b.told (entered vs st) b.frame (body_typed p n typed f g r ts e d) (body_stands p f g e) b.state) (body_alike p n typed w w' goes enters agains known last fr g.body r b.told (entered vs st) inside ((all_get (IsFunction p) p.functions f g typed.functions e).body) b.frame (body_typed p n typed f g r ts e d) (body_stands p f g e) now above (omega arith) b.only) (λ u x after l g' i k. later_alike known last {A = Value} l (without a (parameters 0 vs) l) _ _ (without_stays known last a (parameters 0 vs) l l (parameters_shown known last a 0 vs above) (λ y hid. refl)) (result_does known last is_main wanted x (with_memory after (without a (parameters 0 vs) after.memory)) (without a (parameters 0 vs) l) (without_beside known last a (parameters 0 vs) after.memory l k.beside))))
 
     enter_does : (known : Objects) (last : ℕ) (wanted : Bool) (f : ℕ) (g : Function) (r : CType) (ts : CTypes) (vs : List Value) (o : Objects) (st : State) (more : Memory) → slice_get p.functions f ≡ Some g → g.ctype ≡ function r ts → TellsOfStatics p o → AllZip (HasKind p o) (list_of ts) vs → Now known last p o st more → Alike known last {A = Value} more (enter p w (null_calls_of p) wanted f vs st) (enter (instrumented_program p) w' no_marks wanted f vs (with_memory st more))
     enter_does known last wanted f g r ts vs o st more e d s z k =
