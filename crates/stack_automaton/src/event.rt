@@ -91,13 +91,25 @@ fn first_facts(
 }
 
 // What an event uses. The next event uses it again, where this one was small.
-#[derive(Drop)]
 pub struct Room {
     pub facts: FactSet,
     pub links: Links,
     pub ended: IndexSet<u32>,
     pub found: Resolved,
     pub edges: Vec<Edge>,
+}
+
+// Written, so that a function that drops one proves no more than a call of it.
+impl Drop for Room {
+    fn drop(self) {
+        let Self {
+            facts: _facts,
+            links: _links,
+            ended: _ended,
+            found: _found,
+            edges: _edges,
+        } = self;
+    }
 }
 
 impl Room {

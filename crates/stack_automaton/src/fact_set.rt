@@ -11,12 +11,22 @@ use std::alloc::Global;
 const FEW: usize = 64;
 
 // Different facts, in the order in which they were added. Seen as their list.
-#[derive(Drop)]
 pub struct FactSet {
     alloc: Global,
     list: Vec<Fact>,
     // The facts of the list, where there are more than few.
     index: IndexSet<Fact>,
+}
+
+// Written, so that a function that drops one proves no more than a call of it.
+impl Drop for FactSet {
+    fn drop(self) {
+        let Self {
+            alloc: _,
+            list: _list,
+            index: _index,
+        } = self;
+    }
 }
 
 impl std::marker::Model for FactSet {

@@ -36,6 +36,21 @@ fn wait_for_all(
     Ok(())
 }
 
+// A function for which that at the place waits is in order: adds it, where it waits for nothing else.
+fn release_one(
+    order: &mut Vec<usize>,
+    open: &mut [usize],
+    place: usize,
+) -> Result<(), OutOfMemory> {
+    if let Some(count) = open.get_mut(place) {
+        *count = count.saturating_sub(1);
+        if *count == 0 {
+            order.push(place)?;
+        }
+    }
+    Ok(())
+}
+
 // The function at the place is in order: adds those that wait for nothing else.
 fn release(
     order: &mut Vec<usize>,
@@ -45,31 +60,18 @@ fn release(
 ) -> Result<(), OutOfMemory> {
     if let Some(list) = above.get(place) {
         for other in list {
-            if let Some(count) = open.get_mut(*other) {
-                *count = count.saturating_sub(1);
-                if *count == 0 {
-                    order.push(*other)?;
-                }
-            }
+            release_one(order, open, *other)?;
         }
     }
     Ok(())
 }
 
-// The places of the entered functions from which no cycle of calls is reached, each after those of the
-// functions to which its calls lead. Each call is gone along twice.
-pub fn order(alloc: Global, links: &Links) -> Result<Vec<usize>, OutOfMemory> {
-    // For each place how many calls lead from it to functions that are not in order yet, and the places
-    // from which calls lead to it.
-    let mut open = vec![in alloc; 0; links.len()]?;
-    let mut above = Vec::new(alloc);
-    for _ in 0..links.len() {
-        above.push(Vec::new(alloc))?;
-    }
-    for place in 0..links.len() {
-        wait_for_all(&mut open, &mut above, links, place)?;
-    }
-    let mut order = Vec::new(alloc);
+// Adds the functions that wait for nothing, and then each that waits for those alone that were added.
+fn release_all(
+    order: &mut Vec<usize>,
+    open: &mut [usize],
+    above: &[Vec<usize>],
+) -> Result<(), OutOfMemory> {
     for (place, count) in open.iter().enumerate() {
         if *count == 0 {
             order.push(place)?;
@@ -77,8 +79,41 @@ pub fn order(alloc: Global, links: &Links) -> Result<Vec<usize>, OutOfMemory> {
     }
     let mut i = 0;
     while let Some(&next) = order.get(i) {
-        release(&mut order, &mut open, &above, next)?;
+        release(order, open, above, next)?;
         i += 1;
     }
+    Ok(())
+}
+
+// So many empty lists.
+fn lists(alloc: Global, count: usize) -> Result<Vec<Vec<usize>>, OutOfMemory> {
+    let mut lists = Vec::new(alloc);
+    for _ in 0..count {
+        lists.push(Vec::new(alloc))?;
+    }
+    Ok(lists)
+}
+
+// Adds the places in order. For each place it is told how many calls lead from it to functions that are not
+// in order yet, none at first, and the places from which calls lead to it.
+fn add_in_order(
+    order: &mut Vec<usize>,
+    open: &mut [usize],
+    above: &mut [Vec<usize>],
+    links: &Links,
+) -> Result<(), OutOfMemory> {
+    for place in 0..links.len() {
+        wait_for_all(open, above, links, place)?;
+    }
+    release_all(order, open, above)
+}
+
+// The places of the entered functions from which no cycle of calls is reached, each after those of the
+// functions to which its calls lead. Each call is gone along twice.
+pub fn order(alloc: Global, links: &Links) -> Result<Vec<usize>, OutOfMemory> {
+    let mut open = vec![in alloc; 0; links.len()]?;
+    let mut above = lists(alloc, links.len())?;
+    let mut order = Vec::new(alloc);
+    add_in_order(&mut order, &mut open, &mut above, links)?;
     Ok(order)
 }
