@@ -58,6 +58,9 @@ noted_nothing p none = record {
   there = λ k has. absurd (none k has);
 }
 
+pub notes_none : (p : Contents) → p.noted ≡ [] → AreNoted p []
+notes_none p none = noted_nothing p (λ k has. let inside : Contains [] k = subst (λ ks. Contains ks k) none has in omega (arith, inside.1))
+
 pub notes_still : (old new : Contents) → new.noted ≡ old.noted → AreNoted old [] → AreNoted new []
 notes_still old new same notes = noted_nothing new (λ k has. no_notes old notes k (subst (λ ns. Contains ns k) same has))
 

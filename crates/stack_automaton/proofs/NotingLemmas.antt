@@ -7,7 +7,7 @@ use Rattle.stack_automaton.specs.declared.place.Edge.{Edge}
 use Rattle.stack_automaton.specs.Held.{States, IsThere, HasEdge, Leads}
 use Rattle.stack_automaton.specs.Held.Leads.{here, on}
 use Rattle.dm_base.specs.Adding.{Has, Adds}
-use Rattle.stack_automaton.specs.Noting.{IsNextTo, IsLedTo, AreNotedTo}
+use Rattle.stack_automaton.specs.Noting.{IsNextTo, IsLedTo, AreNotedTo, IsSwept}
 use Rattle.stack_automaton.specs.Storing.{IsClosed}
 
 pub leads_more : {E : ℕ → ℕ → ℕ → Type 0} {j k l q : ℕ} → Leads E j k → E k l q → Leads E j q
@@ -105,3 +105,15 @@ module _ (old new : States) (noted : List ℕ) (final : ℕ) (was_closed : IsClo
 
   pub swept_empty : new final ≡ Some []
   swept_empty = kept final (inr refl) ∙ empty
+
+-- a sweep that has come to one key more
+pub swept_more : (old mid new : States) (noted : List ℕ) (final n : ℕ) → ((k : ℕ) → Contains noted k ⊎ (k ≡ final) → new k ≡ mid k) → ((k : ℕ) → k ≢ n → new k ≡ mid k) → ((Contains noted n → ⊥) → n ≢ final → new n ≡ None)
+    → ((k : ℕ) (edges : List Edge) → new k ≡ Some edges → mid k ≡ Some edges) → IsSwept old mid noted final n → IsSwept old new noted final (n + 1)
+swept_more old mid new noted final n kept others gone fewer was = record {
+  kept = λ k keep. kept k keep ∙ was.kept k keep;
+  gone = λ k lt not ne. elim (cases_eq k n) as (λ _. new k ≡ None) [
+    | inl e ↦ subst (λ j. (Contains noted j → ⊥) → j ≢ final → new j ≡ None) (sym e) gone not ne
+    | inr other ↦ others k other ∙ was.gone k (omega (arith, other, lt)) not ne
+  ];
+  fewer = λ k edges is. was.fewer k edges (fewer k edges is);
+}

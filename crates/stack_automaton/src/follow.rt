@@ -17,16 +17,14 @@ use slab::Slab;
 pub fn add(facts: &mut FactSet, fact: Fact) -> Result<(), OutOfMemory>
     ensures { OnOk result (Adds facts.old.keys facts.new.keys (λ x. x ≡ fact)) }
 {
-    facts.insert(fact)?;
-    Ok(())
+    facts.insert(fact)
 }
 
 // Adds the node with what stands below the fact.
 fn add_at(facts: &mut FactSet, node: u32, place: Place) -> Result<(), OutOfMemory>
     ensures { OnOk result (Adds facts.old.keys facts.new.keys (λ x. x ≡ record { node = node; place = place })) }
 {
-    add(facts, Fact { node, place })?;
-    Ok(())
+    add(facts, Fact { node, place })
 }
 
 fn follow_each_silent(

@@ -21,8 +21,7 @@ fn is_noted(noted: &KeySet, key: usize) -> bool
 fn note(noted: &mut KeySet, key: usize) -> Result<(), OutOfMemory>
     ensures { OnOk result (Adds noted.old.keys noted.new.keys (λ k. k ≡ key)) }
 {
-    noted.insert(key)?;
-    Ok(())
+    noted.insert(key)
 }
 
 fn note_edges(noted: &mut KeySet, edges: &[Edge]) -> Result<(), OutOfMemory>

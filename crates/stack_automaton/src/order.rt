@@ -66,17 +66,22 @@ fn release(
     Ok(())
 }
 
-// Adds the functions that wait for nothing, and then each that waits for those alone that were added.
+// Adds the functions that wait for nothing.
+fn begin(order: &mut Vec<usize>, open: &[usize]) -> Result<(), OutOfMemory> {
+    for place in 0..open.len() {
+        if open[place] == 0 {
+            order.push(place)?;
+        }
+    }
+    Ok(())
+}
+
+// Adds each function that waits for those alone that are in order.
 fn release_all(
     order: &mut Vec<usize>,
     open: &mut [usize],
     above: &[Vec<usize>],
 ) -> Result<(), OutOfMemory> {
-    for (place, count) in open.iter().enumerate() {
-        if *count == 0 {
-            order.push(place)?;
-        }
-    }
     let mut i = 0;
     while let Some(&next) = order.get(i) {
         release(order, open, above, next)?;
@@ -105,6 +110,7 @@ fn add_in_order(
     for place in 0..links.len() {
         wait_for_all(open, above, links, place)?;
     }
+    begin(order, open)?;
     release_all(order, open, above)
 }
 

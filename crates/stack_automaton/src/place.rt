@@ -17,7 +17,7 @@ pub struct Edge {
 
 // What stands below a node that is reached at an event: a state that the pool had before the event, or
 // the new state of a function that is entered at it.
-#[derive(Clone, Copy, Debug, PartialEq, Eq, Hash)]
+#[derive(Clone, Copy, PartialEq, Eq, Hash)]
 pub enum Place {
     Held(usize),
     Entered(u32),
@@ -30,14 +30,14 @@ impl Default for Place {
 }
 
 // A node that is reached at an event, and what stands below it.
-#[derive(Clone, Copy, Debug, PartialEq, Eq, Hash)]
+#[derive(Clone, Copy, PartialEq, Eq, Hash)]
 pub struct Fact {
     pub node: u32,
     pub place: Place,
 }
 
 // A call that is made at an event: its site, the node to which it returns, and what stands below.
-#[derive(Clone, Copy, Debug, Default, PartialEq, Eq)]
+#[derive(Clone, Copy, Default)]
 pub struct Link {
     pub site: u32,
     pub to: u32,

@@ -148,7 +148,7 @@ fn resolve_as_found(
     Ok(())
 }
 
-// Stores the states of the functions in this order.
+// Stores the states of the functions in an order in which each stands after those to which its calls lead.
 fn resolve_in_order(
     alloc: Global,
     states: &mut Slab<State>,
@@ -157,14 +157,14 @@ fn resolve_in_order(
     keys: &mut Vec<usize>,
     known: &mut KeySet,
     links: &Links,
-    order: &[usize],
 ) -> Result<(), OutOfMemory>
     requires resolved { AreResolved (get states.old) keys.old.items known.old.keys links.now }
     requires held { (f q : ℕ) (l : Linked) → HasLink links.now f l → l.place ≡ Held q → IsThere (get states.old) q }
     ensures grows { Grows (get states.old) (get states.new) }
     ensures resolved { OnOk result (AreResolved (get states.new) keys.new.items known.new.keys links.now) }
 {
-    for place in order {
+    let order = order(alloc, links)?;
+    for place in &order {
         resolve_one(alloc, states, shared, edges, keys, known, links, *place)?;
     }
     Ok(())
@@ -192,7 +192,5 @@ pub fn resolve(
     if known.len() == links.len() {
         return Ok(());
     }
-    let order = order(alloc, links)?;
-    resolve_in_order(alloc, states, shared, edges, keys, known, links, &order)?;
-    Ok(())
+    resolve_in_order(alloc, states, shared, edges, keys, known, links)
 }

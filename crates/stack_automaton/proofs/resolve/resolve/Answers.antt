@@ -15,8 +15,5 @@ resolve_in_order-requires-clause-held c = λ f q l has at.
     let (edges, is) = c.requires.held f q l has at in
     (edges, c.resolve_as_found.ensures.grows.kept q edges is)
 
-pub returns-in_err-resolve_in_order-clause-grows : goal.returns-in_err-resolve_in_order-clause-grows
-returns-in_err-resolve_in_order-clause-grows c = grows_trans (get c.args.states.now) (get c.resolve_as_found.new.states) (get c.resolve_in_order.new.states) c.resolve_as_found.ensures.grows c.resolve_in_order.ensures.grows
-
 pub returns-clause-grows : goal.returns-clause-grows
 returns-clause-grows c = grows_trans (get c.args.states.now) (get c.resolve_as_found.new.states) (get c.resolve_in_order.new.states) c.resolve_as_found.ensures.grows c.resolve_in_order.ensures.grows

@@ -3,6 +3,9 @@ use Rattle.slab.specs.Slab.{get}
 use Rattle.stack_automaton.proofs.GrowingLemmas.{grows_same, grows_trans}
 use Rattle.stack_automaton.proofs.resolve.resolve_in_order.Goals as goal
 
+pub returns-in_err-order-clause-grows : goal.returns-in_err-order-clause-grows
+returns-in_err-order-clause-grows c = grows_same (get c.args.states.now) (get c.args.states.now) (λ k. refl)
+
 pub loop-place-init : goal.loop-place-init
 loop-place-init c = record {
   grown = grows_same (get c.args.states.now) (get c.args.states.now) (λ k. refl);
