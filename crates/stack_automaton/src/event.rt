@@ -70,8 +70,7 @@ fn read_from(
 ) -> Result<(), OutOfMemory>
     ensures { OnOk result (Adds facts.old.keys facts.new.keys (IsReadFrom model.now event.now edge)) }
 {
-    read_each(facts, edge, sys_from(model, edge.label), event)?;
-    Ok(())
+    read_each(facts, edge, sys_from(model, edge.label), event)
 }
 
 // Makes the facts those to which the event leads from the edges of a state.

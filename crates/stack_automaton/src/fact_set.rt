@@ -175,7 +175,6 @@ impl FactSet {
         if self.contains(fact) {
             return Ok(());
         }
-        self.push(fact)?;
-        Ok(())
+        self.push(fact)
     }
 }

@@ -44,8 +44,7 @@ fn follow_each_silent(
 fn follow_silent(facts: &mut FactSet, model: &Model, fact: Fact) -> Result<(), OutOfMemory>
     ensures { OnOk result (Adds facts.old.keys facts.new.keys (λ y. Has (λ e. IsAlong fact e y) model.now.silent)) }
 {
-    follow_each_silent(facts, silent_from(model, fact.node), fact.place)?;
-    Ok(())
+    follow_each_silent(facts, silent_from(model, fact.node), fact.place)
 }
 
 // Adds the entry of a function that is entered.

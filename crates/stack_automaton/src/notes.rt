@@ -60,8 +60,7 @@ pub fn note_from(noted: &mut KeySet, states: &Slab<State>, key: usize) -> Result
     ensures { OnOk result ((k : ℕ) → Contains noted.new.keys k ↔ ((j : ℕ) × (Contains noted.old.keys j ⊎ (j ≡ key)) × Leads (HasEdge (get states.now)) j k)) }
 {
     note(noted, key)?;
-    note_all(noted, states)?;
-    Ok(())
+    note_all(noted, states)
 }
 
 // Frees the state at the key, unless it is noted or the last.

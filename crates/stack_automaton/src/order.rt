@@ -3,6 +3,13 @@ use crate::place::Place;
 use dm_base::OutOfMemory;
 use std::alloc::Global;
 
+// Notes that the function at the place waits for one more.
+fn count_one(open: &mut [usize], place: usize) {
+    if let Some(count) = open.get_mut(place) {
+        *count = count.saturating_add(1);
+    }
+}
+
 // Notes that the function at the place waits for that at the other.
 fn wait(
     open: &mut [usize],
@@ -12,9 +19,7 @@ fn wait(
 ) -> Result<(), OutOfMemory> {
     if let Some(list) = above.get_mut(other) {
         list.push(place)?;
-        if let Some(count) = open.get_mut(place) {
-            *count = count.saturating_add(1);
-        }
+        count_one(open, place);
     }
     Ok(())
 }

@@ -1,4 +1,4 @@
-ghost use Rattle.std.specs.Prelude.{◌≡◌, ◌≢◌, ◌↔◌, ◌<◌, ℕ, Contains, IsTrue, IfOk, OnOk, length, slice_index_or};
+ghost use Rattle.std.specs.Prelude.{◌≡◌, ◌≢◌, ◌↔◌, ◌<◌, ℕ, [], Contains, IsTrue, IfOk, OnOk, length, slice_index_or};
 ghost use Rattle.slab.specs.Slab.{get};
 ghost use Rattle.stack_automaton.specs.declared.place.Link.{Link as Linked};
 ghost use Rattle.stack_automaton.specs.declared.place.Place.TheVariants.{Held};
@@ -91,8 +91,7 @@ fn note_key(
     ensures known { OnOk result (Adds known.old.keys known.new.keys (λ i. i ≡ place)) }
 {
     keys[place] = key;
-    known.insert(place)?;
-    Ok(())
+    known.insert(place)
 }
 
 // Stores the state of the function at the place, where all keys to which its calls lead are known.
@@ -170,6 +169,17 @@ fn resolve_in_order(
     Ok(())
 }
 
+// Makes room for the keys of so many functions, of which none is known.
+fn begin(keys: &mut Vec<usize>, known: &mut KeySet, count: usize) -> Result<(), OutOfMemory>
+    ensures long { OnOk result (length keys.new.items ≡ count) }
+    ensures none { known.new.keys ≡ [] }
+{
+    known.clear();
+    keys.clear();
+    keys.resize(count, 0)?;
+    Ok(())
+}
+
 // Stores the states of the functions that are entered, bottom up, but for those from which a cycle of
 // calls is reached.
 pub fn resolve(
@@ -185,9 +195,7 @@ pub fn resolve(
     ensures resolved { OnOk result (AreResolved (get states.new) found.new.keys.items found.new.known.keys links.now) }
 {
     let Resolved { keys, known } = found;
-    keys.clear();
-    keys.resize(links.len(), 0)?;
-    known.clear();
+    begin(keys, known, links.len())?;
     resolve_as_found(alloc, states, shared, edges, keys, known, links)?;
     if known.len() == links.len() {
         return Ok(());

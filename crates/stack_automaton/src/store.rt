@@ -185,6 +185,5 @@ pub fn store(
 {
     store_entered(alloc, states, shared, model, done, found, edges)?;
     tops(edges, &done.links, &found.keys, done.facts.as_slice())?;
-    let key = share(alloc, states, shared, edges)?;
-    Ok(key)
+    share(alloc, states, shared, edges)
 }

@@ -1,14 +1,12 @@
-use Rattle.std.proofs.Common.{◌≡◌, length, arith}
+use Rattle.std.proofs.Common.{◌∙◌}
 use Rattle.slab.specs.Slab.{get}
-use Rattle.stack_automaton.specs.Links.{functions_of}
 use Rattle.stack_automaton.proofs.GrowingLemmas.{grows_trans}
 use Rattle.stack_automaton.proofs.ResolvingLemmas.{resolved_none}
 use Rattle.stack_automaton.proofs.resolve.resolve.Goals as goal
 
 pub resolve_as_found-requires-clause-resolved : goal.resolve_as_found-requires-clause-resolved
 resolve_as_found-requires-clause-resolved c =
-    let long : length c.resize.new.self.items ≡ length (functions_of c.args.links.now) = omega (arith, c.in_ok-resize.ensures.len, c.len.ensures, c.resize.new.self.ok) in
-    resolved_none (get c.args.states.now) c.resize.new.self.items c.clear-2.new.self.keys c.args.links.now long c.clear-2.ensures
+    resolved_none (get c.args.states.now) c.begin.new.keys.items c.begin.new.known.keys c.args.links.now (c.in_ok-begin.ensures.long ∙ c.len.ensures) c.begin.ensures.none
 
 pub resolve_in_order-requires-clause-held : goal.resolve_in_order-requires-clause-held
 resolve_in_order-requires-clause-held c = λ f q l has at.

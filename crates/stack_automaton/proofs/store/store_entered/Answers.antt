@@ -7,6 +7,9 @@ use Rattle.stack_automaton.proofs.store.store_entered.Goals as goal
 pub resolve-requires : goal.resolve-requires
 resolve-requires c = let (begin, event) = c.requires.event in record { held = held_there c.args.model.now (get c.args.states.now) begin c.args.done.now event c.requires.closed }
 
+pub store_others-requires-clause-event : goal.store_others-requires-clause-event
+store_others-requires-clause-event c = let (begin, event) = c.requires.event in (begin, get c.args.states.now, event, c.requires.closed, c.resolve.ensures.grows)
+
 pub returns-in_err-keys-clause-grows : goal.returns-in_err-keys-clause-grows
 returns-in_err-keys-clause-grows c = grows_trans (get c.args.states.now) (get c.resolve.new.states) (get c.store_others.new.states) c.resolve.ensures.grows c.store_others.ensures.grows
 
