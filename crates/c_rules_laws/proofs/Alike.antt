@@ -1,6 +1,8 @@
 -- Two checks of which one is fine exactly where the other is, and then gives the same.
-use Rattle.std.proofs.Common.{◌≡◌, ℕ, Bool, true, false, if◌then◌else◌}
+use Rattle.std.proofs.Common.{◌≡◌, ℕ, Bool, true, false, if◌then◌else◌, refl}
 use Rattle.c_rules.specs.Checked.{Checked, fine, on, both, all_three, gives, demand, fault, and_also, Met, met, fails_with, parts_first}
+use Rattle.c_rules.specs.TypedExpression.{TypedExpression}
+use Rattle.c_rules_laws.proofs.Holding.{Holds}
 use Rattle.c_rules_laws.proofs.Leads.{Leads, same_leads, fine_leads, on_leads, both_leads, gives_leads, all_three_lead, alone_leads, parts_first_leads}
 
 pub record Alike (A : Type 0) (r s : Checked A) : Type 0 where
@@ -70,3 +72,28 @@ by_test false g h = h
 
 pub fault_alike : {A : Type 0} (code at to : ℕ) → Alike A (fault code at) (fault code to)
 fault_alike code at to = record { forth = tt; back = tt }
+
+-- ## Both, and what is given has a property
+
+pub record Agree (P : TypedExpression → Type 0) (r s : Checked TypedExpression) : Type 0 where
+  pub same : Alike TypedExpression r s
+  pub has : Holds P r
+
+pub fine_agree : {P : TypedExpression → Type 0} (g : TypedExpression) → P g → Agree P (fine g) (fine g)
+fine_agree {P} g h = record { same = alike (fine g); has = h }
+
+pub fault_agree : {P : TypedExpression → Type 0} (code at to : ℕ) → Agree P (fault code at) (fault code to)
+fault_agree {P} code at to = record { same = fault_alike code at to; has = tt }
+
+pub demand_agree : {P : TypedExpression → Type 0} (t : Bool) (code at to : ℕ) (g : TypedExpression) → (t ≡ true → P g) → Agree P (demand t code at g) (demand t code to g)
+demand_agree {P} true code at to g h = fine_agree g (h refl)
+demand_agree {P} false code at to g h = fault_agree code at to
+
+-- behind a demand that is met
+pub behind_agree : {P : TypedExpression → Type 0} (t : Bool) (code at to : ℕ) (r s : Checked TypedExpression) → (t ≡ true → Agree P r s) → Agree P (on (demand t code at met) (λ _. r)) (on (demand t code to met) (λ _. s))
+behind_agree {P} true code at to r s h = h refl
+behind_agree {P} false code at to r s h = fault_agree code at to
+
+pub if_agree : {P : TypedExpression → Type 0} (t : Bool) {p p' q q' : Checked TypedExpression} → Agree P p p' → Agree P q q' → Agree P (if t then p else q) (if t then p' else q')
+if_agree {P} true g h = g
+if_agree {P} false g h = h

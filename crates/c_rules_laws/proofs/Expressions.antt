@@ -22,7 +22,7 @@ use Rattle.c_rules.specs.Assignments.{assignable, assignment_by, step, comma_of}
 use Rattle.c_rules.specs.Declarators.{name_of, place_or, place_of_type, is_void_spec, is_bare_pointer, is_void_pointer, array_of, function_of, parameter_of, array_size, behind_parameter}
 use Rattle.c_rules.specs.Expressions.{value_at, place_at, callee_meant, callee_bound, callee, access, after_operand, before_operand, unary_rule, infix_rule, cast_rule, tree, trees, type_named, declared, size_in, parameters, value, folded_value, type_declared, type_of_parameter}
 use Rattle.c_rules_laws.proofs.Alike.{Alike, alike, on_alike, gives_alike, both_alike, three_alike, by_test}
-use Rattle.c_rules_laws.proofs.Operators.{named_alike, string_alike, valued_alike, site_alike, callee_by_name_alike, callee_by_value_alike, called_alike, member_alike, address_alike, indirection_alike, unary_of_value_alike, size_alike, cast_alike, null_cast_alike, sum_alike, operation_alike, conjunction_alike, disjunction_alike, choice_alike, assignable_alike, assignment_by_alike, step_alike}
+use Rattle.c_rules_laws.proofs.Operators.{named_alike, string_alike, valued_alike, site_alike, callee_by_name_alike, callee_by_value_alike, called_alike, member_agrees, address_agrees, indirection_agrees, unary_agrees, size_alike, cast_alike, null_cast_alike, operation_agrees, conjunction_alike, disjunction_alike, choice_agrees, assignable_alike, assignment_agrees, step_agrees}
 use Rattle.c_rules_laws.proofs.Declared.{spec_alike, pointer_alike, array_alike, function_alike, parameter_alike, array_size_alike, with_name_alike, behind_parameter_same}
 
 -- ## Counts
@@ -94,31 +94,31 @@ callee_alike env at to (a_name here x) r s h = bound_alike env at to here 0 x r 
 callee_alike env at to d r s h = by_value_alike at to r s h
 
 access_alike : (env : Env) (at to here yonder : ℕ) (how : Access) (x : Name) (r s : Checked TypedExpression) → Alike TypedExpression r s → Alike TypedExpression (access env at here how x r) (access env to yonder how x s)
-access_alike env at to here yonder dot x r s h = on_alike (member_of env at x) (member_of env to x) h (λ g _. member_alike env at to x g)
+access_alike env at to here yonder dot x r s h = on_alike (member_of env at x) (member_of env to x) h (λ g _. (member_agrees env at to x g).same)
 access_alike env at to here yonder arrow x r s h =
     on_alike (member_of env at x) (member_of env to x)
-    (on_alike (indirection at) (indirection to) (value_at_alike env here yonder r s h) (λ g _. indirection_alike at to g))
-    (λ g _. member_alike env at to x g)
+    (on_alike (indirection at) (indirection to) (value_at_alike env here yonder r s h) (λ g _. (indirection_agrees at to g).same))
+    (λ g _. (member_agrees env at to x g).same)
 
 postfix_alike : (env : Env) (at to here yonder : ℕ) (op : Postfix) (r s : Checked TypedExpression) → Alike TypedExpression r s → Alike TypedExpression (after_operand env at here op r) (after_operand env to yonder op s)
-postfix_alike env at to here yonder post_increment r s h = on_alike (step env at Add true) (step env to Add true) (place_at_alike here yonder r s h) (λ g _. step_alike env at to Add true g)
-postfix_alike env at to here yonder post_decrement r s h = on_alike (step env at Sub true) (step env to Sub true) (place_at_alike here yonder r s h) (λ g _. step_alike env at to Sub true g)
+postfix_alike env at to here yonder post_increment r s h = on_alike (step env at Add true) (step env to Add true) (place_at_alike here yonder r s h) (λ g _. (step_agrees env at to Add true g).same)
+postfix_alike env at to here yonder post_decrement r s h = on_alike (step env at Sub true) (step env to Sub true) (place_at_alike here yonder r s h) (λ g _. (step_agrees env at to Sub true g).same)
 
 prefix_alike : (env : Env) (at to here yonder : ℕ) (op : Prefix) (r s q t : Checked TypedExpression) → Alike TypedExpression r s → Alike TypedExpression q t → Alike TypedExpression (before_operand env at here op r q) (before_operand env to yonder op s t)
-prefix_alike env at to here yonder pre_increment r s q t h k = on_alike (step env at Add false) (step env to Add false) (place_at_alike here yonder r s h) (λ g _. step_alike env at to Add false g)
-prefix_alike env at to here yonder pre_decrement r s q t h k = on_alike (step env at Sub false) (step env to Sub false) (place_at_alike here yonder r s h) (λ g _. step_alike env at to Sub false g)
+prefix_alike env at to here yonder pre_increment r s q t h k = on_alike (step env at Add false) (step env to Add false) (place_at_alike here yonder r s h) (λ g _. (step_agrees env at to Add false g).same)
+prefix_alike env at to here yonder pre_decrement r s q t h k = on_alike (step env at Sub false) (step env to Sub false) (place_at_alike here yonder r s h) (λ g _. (step_agrees env at to Sub false g).same)
 prefix_alike env at to here yonder sizeof r s q t h k = on_alike (size_of_expression env at) (size_of_expression env to) k (λ g _. size_alike env at to at to g.ctype)
 
 unary_alike : (env : Env) (at to here yonder op : ℕ) (r s : Checked TypedExpression) → Alike TypedExpression r s → Alike TypedExpression (unary_rule env at here op r) (unary_rule env to yonder op s)
 unary_alike env at to here yonder op r s h =
     by_test (nat_eq op AMPERSAND)
-    (on_alike (address at here) (address to yonder) h (λ g _. address_alike at to here yonder g))
-    (on_alike (unary_of_value at op) (unary_of_value to op) (value_at_alike env here yonder r s h) (λ g _. unary_of_value_alike at to op g))
+    (on_alike (address at here) (address to yonder) h (λ g _. (address_agrees at to g here yonder).same))
+    (on_alike (unary_of_value at op) (unary_of_value to op) (value_at_alike env here yonder r s h) (λ g _. (unary_agrees at to g op).same))
 
 infix_alike : (env : Env) (at to : ℕ) (op : Infix) (a b : TypedExpression) → Alike TypedExpression (infix_rule env at op a b) (infix_rule env to op a b)
 infix_alike env at to and a b = conjunction_alike at to a b
 infix_alike env at to or a b = disjunction_alike at to a b
-infix_alike env at to (operator code) a b = operation_alike env at to (operator_of_code code) a b
+infix_alike env at to (operator code) a b = (operation_agrees env at to a b (operator_of_code code)).same
 
 casts_alike : (v : Bool) (at to : ℕ) (t u : Checked CType) (r s : Checked TypedExpression) → Alike CType t u → Alike TypedExpression r s → Alike TypedExpression (cast_rule v at t r) (cast_rule v to u s)
 casts_alike true at to t u r s h k = on_alike (null_cast at) (null_cast to) k (λ g _. null_cast_alike at to g)
@@ -130,7 +130,6 @@ void_spec_same s = refl
 
 bare_same : (d : Declarator) → is_bare_pointer (unplaced_declarator d) ≡ is_bare_pointer d
 bare_same (pointer at nothing) = refl
-bare_same (pointer at d) = refl
 bare_same d = refl
 
 void_pointer_same : (t : TypeName) → is_void_pointer (unplaced_type t) ≡ is_void_pointer t
@@ -167,21 +166,21 @@ mutual
   tree_alike env b c h (index at x y) =
       on_alike (indirection at) (indirection 0)
       (both_alike (value env (after b x) y) (value env (after c (unplaced x)) (unplaced y)) (sum env at) (sum env 0) (value_of env b c x (tree_alike env b c h x))
-      (λ _ _. value_of env (after b x) (after c (unplaced x)) y (tree_alike env (after b x) (after c (unplaced x)) (after_same b c x h) y)) (λ p q. sum_alike env at 0 p q))
-      (λ g _. indirection_alike at 0 g)
+      (λ _ _. value_of env (after b x) (after c (unplaced x)) y (tree_alike env (after b x) (after c (unplaced x)) (after_same b c x h) y)) (λ p q. (operation_agrees env at 0 p q Add).same))
+      (λ g _. (indirection_agrees at 0 g).same)
   tree_alike env b c h (binary at op x y) =
       both_alike (value env (after b x) y) (value env (after c (unplaced x)) (unplaced y)) (infix_rule env at op) (infix_rule env 0 op) (value_of env b c x (tree_alike env b c h x))
       (λ _ _. value_of env (after b x) (after c (unplaced x)) y (tree_alike env (after b x) (after c (unplaced x)) (after_same b c x h) y)) (λ p q. infix_alike env at 0 op p q)
   tree_alike env b c h (assign at op x y) =
       both_alike (value env (after b x) y) (value env (after c (unplaced x)) (unplaced y)) (assignment_by env at op) (assignment_by env 0 op)
       (place_at_alike (place_of x) (place_of (unplaced x)) (tree env b x) (tree env c (unplaced x)) (tree_alike env b c h x))
-      (λ _ _. value_of env (after b x) (after c (unplaced x)) y (tree_alike env (after b x) (after c (unplaced x)) (after_same b c x h) y)) (λ p q. assignment_by_alike env at 0 op p q)
+      (λ _ _. value_of env (after b x) (after c (unplaced x)) y (tree_alike env (after b x) (after c (unplaced x)) (after_same b c x h) y)) (λ p q. (assignment_agrees env at 0 op p q).same)
   tree_alike env b c h (conditional at x y z) =
       let b1 : Before = after b x in
       let c1 : Before = after c (unplaced x) in
       let h1 : c1 ≡ b1 = after_same b c x h in
       three_alike (value env b1 y) (value env c1 (unplaced y)) (value env (after b1 y) z) (value env (after c1 (unplaced y)) (unplaced z)) (choice at) (choice 0) (value_of env b c x (tree_alike env b c h x)) (λ _ _. value_of env b1 c1 y (tree_alike env b1 c1 h1 y))
-      (λ _ _ _ _. value_of env (after b1 y) (after c1 (unplaced y)) z (tree_alike env (after b1 y) (after c1 (unplaced y)) (after_same b1 c1 y h1) z)) (λ p q r. choice_alike at 0 p q r)
+      (λ _ _ _ _. value_of env (after b1 y) (after c1 (unplaced y)) z (tree_alike env (after b1 y) (after c1 (unplaced y)) (after_same b1 c1 y h1) z)) (λ p q r. (choice_agrees at 0 p q r).same)
   tree_alike env b c h e = alike (tree env b e)
 
   pub trees_alike : (env : Env) (b c : Before) → c ≡ b → (es : Exprs) → Alike (List TypedExpression) (trees env b es) (trees env c (unplaced_exprs es))

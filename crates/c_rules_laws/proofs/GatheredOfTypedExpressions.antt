@@ -23,8 +23,9 @@ use Rattle.c_rules.specs.BinaryExpressions.{shifted, compared_integers, sum_of, 
 use Rattle.c_rules.specs.Assignments.{assignment, operator_of_assignment, moves, right_type, update_of, assignment_by, one_for, step, trees_of, comma_of}
 use Rattle.c_rules.proofs.NothingMore.{nothing_more}
 use Rattle.c_rules.proofs.Integers.{size_holds}
-use Rattle.c_rules_laws.proofs.Holding.{Holds, demand_holds, behind_demand, after_part, if_holds, and_right, either}
+use Rattle.c_rules_laws.proofs.Holding.{Holds, holds_map, demand_holds, behind_demand, and_right, either}
 use Rattle.c_rules_laws.proofs.MadeTypes.{number_is}
+use Rattle.c_rules_laws.proofs.Operators.{IsMember, a_member, IsAddress, of_place, of_leader, IsLedTo, led, OfOne, leads, promotes, operates, negates, ArePointers, as_given, left_null, right_null, OfTwo, calculates, compares, orders, equals, adds_right, adds_left, takes, differs, OfChoice, integers_chosen, pointers_chosen, voids_chosen, OfUpdate, assigns, updates, moved, member_agrees, address_agrees, indirection_agrees, unary_agrees, operation_agrees, choice_agrees, assignment_agrees, step_agrees}
 use Rattle.c_rules_laws.specs.ConstantForm.{IsConst}
 use Rattle.c_rules_laws.proofs.ConstantForms.{converted_const, unary_const, integer_const, decayed_const, member_const, binary_const, and_const, or_const, conditional_const, moved_const, zero_const}
 
@@ -116,58 +117,35 @@ module _ {X : Type 0} (gathering : Gathering X) where
   callee_through_gathered at xs e (pointer (function t ts)) h = h
   callee_through_gathered at xs e t h = tt
 
-  member_or_gathered : (env : Env) (at : ℕ) (xs : List X) (ms : List Member) (g : TypedExpression) (o : Option ℕ) → Gathers gathering xs g → Holds (Gathers gathering xs) (member_or_undeclared env at ms g o)
-  member_or_gathered env at xs ms g None h = tt
-  member_or_gathered env at xs ms g (Some k) h = (h.0, λ c. h.1 (member_const _ _ g.constant c))
-
-  member_struct_gathered : (env : Env) (at : ℕ) (xs : List X) (x : Name) (g : TypedExpression) (s : Struct) → Gathers gathering xs g → Holds (Gathers gathering xs) (member_of_struct env at x g s)
-  member_struct_gathered env at xs x g (defined_struct ms) h = member_or_gathered env at xs ms g (number_among (map name_of_member ms) x) h
-  member_struct_gathered env at xs x g s h = tt
-
-  member_type_gathered : (env : Env) (at : ℕ) (xs : List X) (x : Name) (g : TypedExpression) (t : CType) → Gathers gathering xs g → Holds (Gathers gathering xs) (member_of_type env at x g t)
-  member_type_gathered env at xs x g (struct s) h = member_struct_gathered env at xs x g (struct_of env s) h
-  member_type_gathered env at xs x g t h = tt
+  member_given_gathered : (env : Env) (x : Name) (xs : List X) (g h : TypedExpression) → IsMember env x g h → Gathers gathering xs g → Gathers gathering xs h
+  member_given_gathered env x xs g h (a_member s ms k e d n) w = (w.0, λ c. w.1 (member_const _ _ g.constant c))
 
   pub member_gathered : (env : Env) (at : ℕ) (xs : List X) (x : Name) (g : TypedExpression) → Gathers gathering xs g → Holds (Gathers gathering xs) (member_of env at x g)
-  member_gathered env at xs x g h = member_type_gathered env at xs x g g.ctype h
+  member_gathered env at xs x g h = holds_map (IsMember env x g) (Gathers gathering xs) (λ m k. member_given_gathered env x xs g m k h) (member_of env at x g) (member_agrees env at at x g).has
 
   -- ## Unary operators
 
-  address_form_gathered : (at : ℕ) (xs : List X) (g : TypedExpression) (f : Form) → gathered gathering (tree_of_form g.ctype f) ≡ xs → (IsConst g.constant → xs ≡ []) → Holds (Gathers gathering xs) (address_of_form at g f)
-  address_form_gathered at xs g (a_value e) h k = tt
-  address_form_gathered at xs g (a_place e) h k = demand_holds (Gathers gathering xs) (few_parts (pointer g.ctype)) 13 at _ (λ _. (h, k))
-  address_form_gathered at xs g (behind q) h k = (h, k)
-
-  address_type_gathered : (at : ℕ) (xs : List X) (g : TypedExpression) (t : CType) → Gathers gathering xs g → Holds (Gathers gathering xs) (address_of_type at g t)
-  address_type_gathered at xs g (array t n) h = tt
-  address_type_gathered at xs g t h = address_form_gathered at xs g g.form h.0 h.1
+  address_of_gathered : (xs : List X) (g h : TypedExpression) → IsAddress g h → Gathers gathering xs g → Gathers gathering xs h
+  address_of_gathered xs g h (of_place e f n) w = (subst (λ f. gathered gathering (tree_of_form g.ctype f) ≡ xs) f w.0, w.1)
+  address_of_gathered xs g h (of_leader q f n) w = (subst (λ f. gathered gathering (tree_of_form g.ctype f) ≡ xs) f w.0, w.1)
 
   pub address_gathered : (at place : ℕ) (xs : List X) (g : TypedExpression) → Gathers gathering xs g → Holds (Gathers gathering xs) (address at place g)
-  address_gathered at place xs g h = behind_demand (Gathers gathering xs) (is_place g || is_function g.ctype) 4 place _ (λ _. address_type_gathered at xs g g.ctype h)
+  address_gathered at place xs g h = holds_map (IsAddress g) (Gathers gathering xs) (λ x k. address_of_gathered xs g x k h) (address at place g) (address_agrees at at g place place).has
 
-  led_gathered : (at : ℕ) (xs : List X) (g : TypedExpression) (t : CType) → Gathers gathering xs g → Holds (Gathers gathering xs) (led_to at g t)
-  led_gathered at xs g (pointer void) h = tt
-  led_gathered at xs g (pointer t) h = h
-  led_gathered at xs g t h = tt
+  led_gathered : (xs : List X) (g h : TypedExpression) → IsLedTo g h → Gathers gathering xs g → Gathers gathering xs h
+  led_gathered xs g h (led t e n) w = w
 
   pub indirection_gathered : (at : ℕ) (xs : List X) (g : TypedExpression) → Gathers gathering xs g → Holds (Gathers gathering xs) (indirection at g)
-  indirection_gathered at xs g h = led_gathered at xs g g.ctype h
+  indirection_gathered at xs g h = holds_map (IsLedTo g) (Gathers gathering xs) (λ x k. led_gathered xs g x k h) (indirection at g) (indirection_agrees at at g).has
 
-  plus_gathered : (at : ℕ) (xs : List X) (g : TypedExpression) (k : Kind) → Gathers gathering xs g → Holds (Gathers gathering xs) (plus_of at g k)
-  plus_gathered at xs g (an_integer i) h = cast_gathered xs (promoted i) g h
-  plus_gathered at xs g k h = tt
-
-  operator_gathered : (at : ℕ) (xs : List X) (o : UnOp) (g : TypedExpression) (k : Kind) → Gathers gathering xs g → Holds (Gathers gathering xs) (operator_of at o g k)
-  operator_gathered at xs o g (an_integer i) h = (let c = converted_gathered xs (promoted i) g h in (c.0, λ k. c.1 (unary_const o (converted_to (promoted i) g).constant k)))
-  operator_gathered at xs o g k h = tt
+  one_gathered : (xs : List X) (g h : TypedExpression) → OfOne g h → Gathers gathering xs g → Gathers gathering xs h
+  one_gathered xs g h (leads x k) w = led_gathered xs g x k w
+  one_gathered xs g h (promotes i e) w = cast_gathered xs (promoted i) g w
+  one_gathered xs g h (operates o i s e) w = (let c = converted_gathered xs (promoted i) g w in (c.0, λ k. c.1 (unary_const o (converted_to (promoted i) g).constant k)))
+  one_gathered xs g h (negates s) w = (w.0, λ c. w.1 (integer_const (is_integer g.ctype) g.constant (unary_const Not (integer_constant g) c)))
 
   pub unary_gathered : (at o : ℕ) (xs : List X) (g : TypedExpression) → Gathers gathering xs g → Holds (Gathers gathering xs) (unary_of_value at o g)
-  unary_gathered at o xs g h =
-      if_holds (Gathers gathering xs) (nat_eq o ASTERISK) _ _ (indirection_gathered at xs g h)
-      (if_holds (Gathers gathering xs) (nat_eq o PLUS) _ _ (plus_gathered at xs g (kind_of g.ctype) h)
-      (if_holds (Gathers gathering xs) (nat_eq o MINUS) _ _ (operator_gathered at xs _ g (kind_of g.ctype) h)
-      (if_holds (Gathers gathering xs) (nat_eq o TILDE) _ _ (operator_gathered at xs _ g (kind_of g.ctype) h)
-      (demand_holds (Gathers gathering xs) (is_scalar g.ctype) 3 at _ (λ _. (h.0, λ c. h.1 (integer_const (is_integer g.ctype) g.constant (unary_const Not (integer_constant g) c))))))))
+  unary_gathered at o xs g h = holds_map (OfOne g) (Gathers gathering xs) (λ x k. one_gathered xs g x k h) (unary_of_value at o g) (unary_agrees at at g o).has
 
   pub size_gathered : (env : Env) (at place : ℕ) (t : CType) → Holds (Gathers gathering []) (size_of env at place t)
   size_gathered env at place t = size_holds (Gathers gathering []) env at place t (λ _. (refl, λ _. refl))
@@ -198,69 +176,26 @@ module _ {X : Type 0} (gathering : Gathering X) where
     turned : (c k : Constant) (s : ℤ → ℤ) → IsConst (constant_moved c s k) → IsConst k × IsConst c
     turned c k s h = (let w = moved_const c s k h in (w.1, w.0))
 
-    sum_of_gathered : (env : Env) (at : ℕ) (a b : TypedExpression) (k l : Kind) → Gathers gathering xs a → Gathers gathering ys b → Holds (Gathers gathering (xs ++ ys)) (sum_of env at a b k l)
-    sum_of_gathered env at a b (an_integer i) (an_integer j) g h = calculated_gathered op.Add (common i j) (common i j) a b g h
-    sum_of_gathered env at a b (a_pointer t) (an_integer j) g h = after_part (Gathers gathering (xs ++ ys)) (complete env at t) _ (λ _. both_gathered _ a.constant b.constant (tree_of a) (tree_of b) (moved_const a.constant _ b.constant) g h)
-    sum_of_gathered env at a b (an_integer i) (a_pointer t) g h = after_part (Gathers gathering (xs ++ ys)) (complete env at t) _ (λ _. both_gathered _ a.constant b.constant (tree_of a) (tree_of b) (turned b.constant a.constant _) g h)
-    sum_of_gathered env at a b k l g h = tt
+    pointers_gathered : (a b x y : TypedExpression) → ArePointers a b x y → Gathers gathering xs a → Gathers gathering ys b → Gathers gathering xs x × Gathers gathering ys y
+    pointers_gathered a b x y (as_given t e f) g h = (g, h)
+    pointers_gathered a b x y (left_null t e n) g h = (null_gathered xs b.ctype a n g, h)
+    pointers_gathered a b x y (right_null t e n) g h = (g, null_gathered ys a.ctype b n h)
 
-    pub sum_gathered : (env : Env) (at : ℕ) (a b : TypedExpression) → Gathers gathering xs a → Gathers gathering ys b → Holds (Gathers gathering (xs ++ ys)) (sum env at a b)
-    sum_gathered env at a b g h = sum_of_gathered env at a b (kind_of a.ctype) (kind_of b.ctype) g h
-
-    minus_gathered : (env : Env) (at : ℕ) (a b : TypedExpression) (k l : Kind) → Gathers gathering xs a → Gathers gathering ys b → Holds (Gathers gathering (xs ++ ys)) (minus_of env at a b k l)
-    minus_gathered env at a b (an_integer i) (an_integer j) g h = calculated_gathered op.Sub (common i j) (common i j) a b g h
-    minus_gathered env at a b (a_pointer t) (an_integer j) g h = after_part (Gathers gathering (xs ++ ys)) (complete env at t) _ (λ _. both_gathered _ a.constant b.constant (tree_of a) (tree_of b) (moved_const a.constant _ b.constant) g h)
-    minus_gathered env at a b (a_pointer t) (a_pointer u) g h = behind_demand (Gathers gathering (xs ++ ys)) (same_type t u) 3 at _ (λ _. after_part (Gathers gathering (xs ++ ys)) (complete env at t) _ (λ _. plain_gathered (tree_of a) (tree_of b) g.0 h.0))
-    minus_gathered env at a b k l g h = tt
-
-    balanced_gathered : (at : ℕ) (o : BinOp) (a b : TypedExpression) (k l : Kind) → Gathers gathering xs a → Gathers gathering ys b → Holds (Gathers gathering (xs ++ ys)) (balanced_of at o a b k l)
-    balanced_gathered at o a b (an_integer i) (an_integer j) g h = calculated_gathered o (common i j) (common i j) a b g h
-    balanced_gathered at o a b k l g h = tt
-
-    shift_gathered : (at : ℕ) (o : BinOp) (a b : TypedExpression) (k l : Kind) → Gathers gathering xs a → Gathers gathering ys b → Holds (Gathers gathering (xs ++ ys)) (shift_of at o a b k l)
-    shift_gathered at o a b (an_integer i) (an_integer j) g h = calculated_gathered o (promoted i) (promoted j) a b g h
-    shift_gathered at o a b k l g h = tt
-
-    ordered_gathered : (env : Env) (at : ℕ) (o : BinOp) (a b : TypedExpression) (k l : Kind) → Gathers gathering xs a → Gathers gathering ys b → Holds (Gathers gathering (xs ++ ys)) (ordered_of env at o a b k l)
-    ordered_gathered env at o a b (an_integer i) (an_integer j) g h = compared_gathered o (common i j) a b g h
-    ordered_gathered env at o a b (a_pointer t) (a_pointer u) g h = behind_demand (Gathers gathering (xs ++ ys)) (same_type t u) 3 at _ (λ _. after_part (Gathers gathering (xs ++ ys)) (complete env at t) _ (λ _. plain_gathered (tree_of a) (tree_of b) g.0 h.0))
-    ordered_gathered env at o a b k l g h = tt
-
-    abbrev AlikeSites : Alike → Type 0
-    AlikeSites (alike_integers i) = Unit {0}
-    AlikeSites (alike_pointers x y) = Gathers gathering xs x × Gathers gathering ys y
-    AlikeSites unlike = Unit {0}
-
-    pointers_gathered : (a b : TypedExpression) → Gathers gathering xs a → Gathers gathering ys b → AlikeSites (pointers_alike a b)
-    pointers_gathered a b g h =
-        either AlikeSites (same_type a.ctype b.ctype) (alike_pointers a b) _ (λ _. (g, h))
-        (either AlikeSites (is_null a) (alike_pointers (null_of b.ctype) b) _ (λ e. (null_gathered xs b.ctype a e g, h))
-        (either AlikeSites (is_null b) (alike_pointers a (null_of a.ctype)) unlike (λ e. (g, null_gathered ys a.ctype b e h)) tt))
-
-    alike_of_gathered : (a b : TypedExpression) (k l : Kind) → Gathers gathering xs a → Gathers gathering ys b → AlikeSites (alike_of a b k l)
-    alike_of_gathered a b (a_pointer t) (a_pointer u) g h = pointers_gathered a b g h
-    alike_of_gathered a b (a_pointer t) (an_integer j) g h = either AlikeSites (is_null b) (alike_pointers a (null_of a.ctype)) unlike (λ e. (g, null_gathered ys a.ctype b e h)) tt
-    alike_of_gathered a b (an_integer i) (a_pointer u) g h = either AlikeSites (is_null a) (alike_pointers (null_of b.ctype) b) unlike (λ e. (null_gathered xs b.ctype a e g, h)) tt
-    alike_of_gathered a b k l g h = tt
-
-    equality_gathered : (at : ℕ) (o : BinOp) (a b : TypedExpression) (x : Alike) → AlikeSites x → Gathers gathering xs a → Gathers gathering ys b → Holds (Gathers gathering (xs ++ ys)) (equality_of at o a b x)
-    equality_gathered at o a b (alike_integers i) s g h = compared_gathered o i a b g h
-    equality_gathered at o a b (alike_pointers x y) s g h = plain_gathered (tree_of x) (tree_of y) s.0.0 s.1.0
-    equality_gathered at o a b unlike s g h = tt
-
-    arithmetic_gathered : (env : Env) (at : ℕ) (o : BinOp) (a b : TypedExpression) → Gathers gathering xs a → Gathers gathering ys b → Holds (Gathers gathering (xs ++ ys)) (arithmetic_of env at o a b)
-    arithmetic_gathered env at op.Add a b g h = sum_gathered env at a b g h
-    arithmetic_gathered env at op.Sub a b g h = minus_gathered env at a b (kind_of a.ctype) (kind_of b.ctype) g h
-    arithmetic_gathered env at o a b g h = balanced_gathered at _ a b (kind_of a.ctype) (kind_of b.ctype) g h
-
-    operation_of_gathered : (env : Env) (at : ℕ) (o : BinOp) (a b : TypedExpression) (k : OperatorKind) → Gathers gathering xs a → Gathers gathering ys b → Holds (Gathers gathering (xs ++ ys)) (operation_of env at o a b k)
-    operation_of_gathered env at o a b balanced g h = arithmetic_gathered env at o a b g h
-    operation_of_gathered env at o a b shift g h = shift_gathered at o a b (kind_of a.ctype) (kind_of b.ctype) g h
-    operation_of_gathered env at o a b ordering g h = ordered_gathered env at o a b (kind_of a.ctype) (kind_of b.ctype) g h
-    operation_of_gathered env at o a b equality g h = equality_gathered at o a b (alike a b) (alike_of_gathered a b (kind_of a.ctype) (kind_of b.ctype) g h) g h
+    two_gathered : (env : Env) (at : ℕ) (a b g : TypedExpression) → OfTwo env at a b g → Gathers gathering xs a → Gathers gathering ys b → Gathers gathering (xs ++ ys) g
+    two_gathered env at a b g (calculates o i j f s t) h k = calculated_gathered o i j a b h k
+    two_gathered env at a b g (compares o i f p s t) h k = compared_gathered o i a b h k
+    two_gathered env at a b g (orders o t q e s c) h k = plain_gathered (tree_of a) (tree_of b) h.0 k.0
+    two_gathered env at a b g (equals o x y q p) h k = (let s = pointers_gathered a b x y p h k in plain_gathered (tree_of x) (tree_of y) s.0.0 s.1.0)
+    two_gathered env at a b g (adds_right t e i c) h k = both_gathered _ a.constant b.constant (tree_of a) (tree_of b) (moved_const a.constant _ b.constant) h k
+    two_gathered env at a b g (adds_left t e i c) h k = both_gathered _ a.constant b.constant (tree_of a) (tree_of b) (turned b.constant a.constant _) h k
+    two_gathered env at a b g (takes t e i c) h k = both_gathered _ a.constant b.constant (tree_of a) (tree_of b) (moved_const a.constant _ b.constant) h k
+    two_gathered env at a b g (differs t e s c) h k = plain_gathered (tree_of a) (tree_of b) h.0 k.0
 
     pub operation_gathered : (env : Env) (at : ℕ) (o : BinOp) (a b : TypedExpression) → Gathers gathering xs a → Gathers gathering ys b → Holds (Gathers gathering (xs ++ ys)) (operation env at o a b)
-    operation_gathered env at o a b g h = operation_of_gathered env at o a b (kind_of_operator o) g h
+    operation_gathered env at o a b h k = holds_map (OfTwo env at a b) (Gathers gathering (xs ++ ys)) (λ g x. two_gathered env at a b g x h k) (operation env at o a b) (operation_agrees env at at a b o).has
+
+    pub sum_gathered : (env : Env) (at : ℕ) (a b : TypedExpression) → Gathers gathering xs a → Gathers gathering ys b → Holds (Gathers gathering (xs ++ ys)) (sum env at a b)
+    sum_gathered env at a b g h = operation_gathered env at op.Add a b g h
 
     two_parts : (a b : TypedExpression) (f : Constant → Constant → Constant) → ((c d : Constant) → IsConst (f c d) → IsConst c × IsConst d) → IsConst (f (integer_constant a) (integer_constant b)) → IsConst a.constant × IsConst b.constant
     two_parts a b f k h = (let w = k (integer_constant a) (integer_constant b) h in (integer_const (is_integer a.ctype) a.constant w.0, integer_const (is_integer b.ctype) b.constant w.1))
@@ -271,25 +206,24 @@ module _ {X : Type 0} (gathering : Gathering X) where
     pub disjunction_gathered : (at : ℕ) (a b : TypedExpression) → Gathers gathering xs a → Gathers gathering ys b → Holds (Gathers gathering (xs ++ ys)) (disjunction at a b)
     disjunction_gathered at a b g h = demand_holds (Gathers gathering (xs ++ ys)) (both_scalars a b) 3 at _ (λ _. both_gathered _ a.constant b.constant (tree_of a) (tree_of b) (two_parts a b constant_or or_const) g h)
 
-    assignment_gathered : (at : ℕ) (a b : TypedExpression) → Gathers gathering xs a → Gathers gathering ys b → Holds (Gathers gathering (xs ++ ys)) (assignment at a b)
-    assignment_gathered at a b g h = demand_holds (Gathers gathering (xs ++ ys)) (fits a.ctype b) 3 at _ (λ _. plain_gathered (tree_of a) (tree_of (assigned a.ctype b)) g.0 (assigned_gathered ys a.ctype b h).0)
-
-    update_gathered : (env : Env) (at : ℕ) (o : BinOp) (old : Bool) (a b : TypedExpression) (k l : Kind) → Gathers gathering xs a → Gathers gathering ys b → Holds (Gathers gathering (xs ++ ys)) (update_of env at o old a b k l)
-    update_gathered env at o old a b (an_integer i) (an_integer j) g h = (let r : IntType = right_type (kind_of_operator o) i j in plain_gathered (tree_of a) (tree_of (converted_to r b)) g.0 (converted_gathered ys r b h).0)
-    update_gathered env at o old a b (a_pointer t) (an_integer j) g h = behind_demand (Gathers gathering (xs ++ ys)) (moves o) 3 at _ (λ _. after_part (Gathers gathering (xs ++ ys)) (complete env at t) _ (λ _. plain_gathered (tree_of a) (tree_of b) g.0 h.0))
-    update_gathered env at o old a b k l g h = tt
+    update_gathered : (env : Env) (at : ℕ) (o : BinOp) (a b g : TypedExpression) → OfUpdate env at o a b g → Gathers gathering xs a → Gathers gathering ys b → Gathers gathering (xs ++ ys) g
+    update_gathered env at o a b g (assigns f) h k = plain_gathered (tree_of a) (tree_of (assigned a.ctype b)) h.0 (assigned_gathered ys a.ctype b k).0
+    update_gathered env at o a b g (updates old i j e f) h k = (let r : IntType = right_type (kind_of_operator o) i j in plain_gathered (tree_of a) (tree_of (converted_to r b)) h.0 (converted_gathered ys r b k).0)
+    update_gathered env at o a b g (moved old t m e i c) h k = plain_gathered (tree_of a) (tree_of b) h.0 k.0
 
     pub assignment_by_gathered : (env : Env) (at code : ℕ) (a b : TypedExpression) → Gathers gathering xs a → Gathers gathering ys b → Holds (Gathers gathering (xs ++ ys)) (assignment_by env at code a b)
-    assignment_by_gathered env at code a b g h =
-        if_holds (Gathers gathering (xs ++ ys)) (nat_eq code ASSIGN) _ _ (assignment_gathered at a b g h) (update_gathered env at (operator_of_assignment code) false a b (kind_of a.ctype) (kind_of b.ctype) g h)
+    assignment_by_gathered env at code a b h k =
+        holds_map (OfUpdate env at (operator_of_assignment code) a b) (Gathers gathering (xs ++ ys)) (λ g u. update_gathered env at (operator_of_assignment code) a b g u h k) (assignment_by env at code a b) (assignment_agrees env at at code a b).has
 
-  one_gathered : (k : Kind) → Gathers gathering [] (one_for k)
-  one_gathered (an_integer i) = (refl, λ c. absurd c)
-  one_gathered k = (refl, λ c. absurd c)
+  one_for_gathered : (k : Kind) → Gathers gathering [] (one_for k)
+  one_for_gathered (an_integer i) = (refl, λ c. absurd c)
+  one_for_gathered k = (refl, λ c. absurd c)
 
   pub step_gathered : (env : Env) (at : ℕ) (o : BinOp) (old : Bool) (xs : List X) (a : TypedExpression) → Gathers gathering xs a → Holds (Gathers gathering xs) (step env at o old a)
   step_gathered env at o old xs a h =
-      subst (λ ys. Holds (Gathers gathering ys) (step env at o old a)) (nothing_more xs) (update_gathered xs [] env at o old a (one_for (kind_of a.ctype)) (kind_of a.ctype) (kind_of (one_for (kind_of a.ctype)).ctype) h (one_gathered (kind_of a.ctype)))
+      let one : TypedExpression = one_for (kind_of a.ctype) in
+      subst (λ ys. Holds (Gathers gathering ys) (step env at o old a)) (nothing_more xs)
+      (holds_map (OfUpdate env at o a one) (Gathers gathering (xs ++ [])) (λ g u. update_gathered xs [] env at o a one g u h (one_for_gathered (kind_of a.ctype))) (step env at o old a) (step_agrees env at at o old a).has)
 
   -- ## ?: and the comma
 
@@ -301,13 +235,13 @@ module _ {X : Type 0} (gathering : Gathering X) where
           none_both zs (xs ++ ys) (f.1 (integer_const (is_integer c.ctype) c.constant w.0)) (none_both xs ys (g.1 (integer_const (is_integer a.ctype) a.constant w.1)) (h.1 (integer_const (is_integer b.ctype) b.constant w.2)))),
     )
 
-    arms_gathered : (at : ℕ) (c a b : TypedExpression) (x : Alike) → AlikeSites xs ys x → Gathers gathering zs c → Gathers gathering xs a → Gathers gathering ys b → Holds (Gathers gathering (zs ++ (xs ++ ys))) (arms_of at c a b x)
-    arms_gathered at c a b (alike_integers i) s f g h = chosen_gathered (integer i) c (converted_to i a) (converted_to i b) f (converted_gathered xs i a g) (converted_gathered ys i b h)
-    arms_gathered at c a b (alike_pointers x y) s f g h = chosen_gathered x.ctype c x y f s.0 s.1
-    arms_gathered at c a b unlike s f g h = demand_holds (Gathers gathering (zs ++ (xs ++ ys))) (is_void a.ctype && is_void b.ctype) 3 at _ (λ _. chosen_gathered void c a b f g h)
+    choice_of_gathered : (c a b g : TypedExpression) → OfChoice c a b g → Gathers gathering zs c → Gathers gathering xs a → Gathers gathering ys b → Gathers gathering (zs ++ (xs ++ ys)) g
+    choice_of_gathered c a b g (integers_chosen i s j k) f h l = chosen_gathered (integer i) c (converted_to i a) (converted_to i b) f (converted_gathered xs i a h) (converted_gathered ys i b l)
+    choice_of_gathered c a b g (pointers_chosen x y s p) f h l = (let w = pointers_gathered xs ys a b x y p h l in chosen_gathered x.ctype c x y f w.0 w.1)
+    choice_of_gathered c a b g (voids_chosen s v) f h l = chosen_gathered void c a b f h l
 
     pub choice_gathered : (at : ℕ) (c a b : TypedExpression) → Gathers gathering zs c → Gathers gathering xs a → Gathers gathering ys b → Holds (Gathers gathering (zs ++ (xs ++ ys))) (choice at c a b)
-    choice_gathered at c a b f g h = behind_demand (Gathers gathering (zs ++ (xs ++ ys))) (is_scalar c.ctype) 3 at _ (λ _. arms_gathered at c a b (alike a b) (alike_of_gathered xs ys a b (kind_of a.ctype) (kind_of b.ctype) g h) f g h)
+    choice_gathered at c a b f h k = holds_map (OfChoice c a b) (Gathers gathering (zs ++ (xs ++ ys))) (λ g x. choice_of_gathered c a b g x f h k) (choice at c a b) (choice_agrees at at c a b).has
 
   trees_gathered : (gs : List TypedExpression) (xs : List X) → AllGather gathering xs gs → gathered_all gathering (trees_of gs) ≡ xs
   trees_gathered [] xs h = sym h

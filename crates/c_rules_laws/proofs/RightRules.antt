@@ -12,7 +12,7 @@ use Rattle.c_tree.specs.declared.value.BinOp.{BinOp}
 use Rattle.c_tree.specs.declared.value.BinOp.TheVariants as op
 use Rattle.c_tree.specs.declared.value.Value.{Value}
 use Rattle.c_tree.specs.declared.value.Value.TheVariants as v
-use Rattle.c_tree.specs.Tree.{CType, void, integer, pointer, array, struct, function, CTypes, no_types, more_types, Program, type_of, Expr, Exprs, constant}
+use Rattle.c_tree.specs.Tree.{CType, void, integer, pointer, array, struct, function, CTypes, no_types, more_types, Program, type_of, Expr, Exprs, constant, pointer_add}
 use Rattle.c_tree.specs.Layout.{Structs, flat, cells, first_cell, sizeof}
 use Rattle.c_tree.specs.Functions.{int, unsigned_int, called_type}
 use Rattle.c_tree.specs.Operands.{IsScalar, IsResult, IsComplete, IsObject, IsTarget, IsIntegerType, IsPromoted, promoted, common, OperatorKind, balanced, shift, ordering, equality, AreOperands, FitsUnary, AreComparable, IsObjectPointer, FitsUpdate, FitsRightSide, MovesPointers}
@@ -21,11 +21,12 @@ use Rattle.c_tree.specs.Operators.{Answer, binary, table_of, where_shift}
 use Rattle.c_tree.specs.Kinds.{Lies}
 use Rattle.c_tree.specs.Typed.{IsValue, IsPlace, AreArguments, AreMembersAfter}
 use Rattle.c_tree.proofs.OperatorLemmas.{value_of_type}
+use Rattle.c_rules.specs.Checked.{fine, met}
 use Rattle.c_rules.specs.Names.{Name, number_among}
 use Rattle.c_rules.specs.Types.{same_type, is_integer, is_function, is_scalar, is_void, count}
 use Rattle.c_rules.specs.Scopes.{Env, Struct, defined_struct, Member, struct_of, type_of_member, layout_of}
-use Rattle.c_rules.specs.TypedExpression.{Form, a_value, a_place, behind, Constant, not_constant, known, TypedExpression, tree_of_form, tree_of, is_value, is_place, is_null, integer_constant}
-use Rattle.c_rules.specs.Constants.{answered, constant_binary}
+use Rattle.c_rules.specs.TypedExpression.{Form, a_value, a_place, behind, Constant, not_constant, known, TypedExpression, tree_of_form, tree_of, is_value, is_place, is_null, integer_constant, typed_value}
+use Rattle.c_rules.specs.Constants.{answered, constant_binary, constant_moved}
 use Rattle.c_rules.specs.Conversions.{Kind, an_integer, a_pointer, kind_of, few_parts, complete, cast_to, converted_to, null_of, fits}
 use Rattle.c_rules.specs.PostfixExpressions.{Designator, direct, through, Callee, callee_of_type, callee_through, all_fit, passed, call_of, as_many_as, called, name_of_member, member_given, member_or_undeclared, member_of_struct, member_of_type, member_of}
 use Rattle.c_rules.specs.UnaryExpressions.{address_of_form, address_of_type, address, led_to, indirection, plus_of, operator_of, negation, unary_of_value, size_of, cast_of, null_cast}
@@ -35,23 +36,20 @@ use Rattle.c_rules.specs.PrimaryExpressions.{typed_unsigned}
 use Rattle.c_meaning_laws.proofs.Places.{struct_is, member_lies, member_few}
 use Rattle.c_rules_laws.specs.MadeTypes.{NotArray, Made, IsSized}
 use Rattle.c_rules_laws.specs.SoundStructs.{AreSound, AreWithin}
-use Rattle.c_rules_laws.proofs.Holding.{Holds, on_holds, demand_holds, behind_demand, if_holds, holds_map, and_left, and_right, either}
+use Rattle.c_rules_laws.proofs.Holding.{Holds, held, on_holds, demand_holds, behind_demand, holds_map, and_left, and_right, either}
+use Rattle.c_rules_laws.proofs.Operators.{kind_pointer, promoted_is, common_is, IsComparison, IsMember, a_member, IsAddress, of_place, of_leader, IsLedTo, led, OfOne, leads, promotes, operates, negates, ArePointers, as_given, left_null, right_null, OfTwo, calculates, compares, orders, equals, adds_right, adds_left, takes, differs, OfChoice, integers_chosen, pointers_chosen, voids_chosen, OfUpdate, assigns, updates, moved, member_agrees, address_agrees, indirection_agrees, unary_agrees, operation_agrees, choice_agrees, assignment_agrees, step_agrees}
 use Rattle.c_rules_laws.proofs.MadeTypes.{number_is, scalar_is, type_is, complete_known, scalar_not_array, void_is}
 use Rattle.c_rules_laws.proofs.SoundStructs.{are_structs, struct_few}
 use Rattle.c_rules_laws.proofs.SizeBounds.{size_bound}
-use Rattle.c_rules_laws.proofs.TypesOfTypedExpressions.{kind_pointer, kind_integer, defined_at, sized_few, scalar_result}
-use Rattle.c_rules_laws.proofs.RightTypedExpressions.{complete_thing, target_scalar, seen_same, integer_type, promoted_is, common_is, complete_in, cells_in, object_in, first_in, ConstRight, not_constant_right, truth_right, unary_constant, binary_constant, and_constant, or_constant, conditional_constant, integer_part, member_constant, moved_constant, FormRight, TypedExpressionRight, ValueRight, ValuesRight, cast_right, converted_right, null_right, assigned_right, fits_scalar}
+use Rattle.c_rules_laws.proofs.TypesOfTypedExpressions.{defined_at, sized_few, scalar_result}
+use Rattle.c_rules_laws.proofs.RightTypedExpressions.{complete_thing, target_scalar, seen_same, integer_type, thing_led, complete_in, cells_in, object_in, first_in, ConstRight, not_constant_right, truth_right, unary_constant, binary_constant, and_constant, or_constant, conditional_constant, integer_part, member_constant, moved_constant, FormRight, TypedExpressionRight, ValueRight, ValuesRight, cast_right, converted_right, null_right, assigned_right, fits_scalar}
+use Rattle.std.specs.Prelude.{neg_ℤ}
 
--- kinds of operators that compare, and that calculate
-abbrev pub IsComparison : OperatorKind → Type 0
-IsComparison ordering = Unit {0}
-IsComparison equality = Unit {0}
-IsComparison k = ⊥
-
+-- kinds of operators that calculate
 abbrev pub IsCalculation : OperatorKind → Type 0
-IsCalculation balanced = Unit {0}
-IsCalculation shift = Unit {0}
-IsCalculation k = ⊥
+IsCalculation ordering = ⊥
+IsCalculation equality = ⊥
+IsCalculation k = Unit {0}
 
 common_twice : (i j : IntType) → common i j ≡ common i (common i j)
 common_twice Uint j = refl
@@ -182,75 +180,51 @@ module _ (p : Program) (vars : List CType) where
         subst (λ n. Lies (flat p.structs (struct s)) n (flat p.structs t)) (sym first) (subst (λ all. Lies all (first_cell p.structs ts k) (flat p.structs t)) (sym (struct_is p.structs (are_structs p.structs w.whole) s ts kept)) (member_lies p.structs ts k t got)) in
         (inl refl, ((s, ts, k, place.1, kept, got, first), place.0), complete_thing (layout_of env) t c, member_constant p (struct s) t (first_cell (layout_of env) ts k) (cells (layout_of env) t) g.constant place.2 o (cells_in (layout_of env) p.structs w t c) lies)
 
-    member_or_right : (at s : ℕ) (ms : List Member) (g : TypedExpression) (o : Option ℕ) → slice_get (layout_of env) s ≡ Some (Some (map type_of_member ms)) → g.ctype ≡ struct s → ((k : ℕ) → o ≡ Some k → k < length (map type_of_member ms)) → TypedExpressionRight p vars g → Holds (TypedExpressionRight p vars) (member_or_undeclared env at ms g o)
-    member_or_right at s ms g None d q l h = tt
-    member_or_right at s ms g (Some k) d q l h = member_place s ms g k d q (l k refl) h
-
     module _ (below : (xs : List Name) (x : Name) (i : ℕ) → number_among xs x ≡ Some i → i < length xs) (long : (ms : List Member) → length (map name_of_member ms) ≡ length (map type_of_member ms)) where
-      member_struct_right : (at s : ℕ) (x : Name) (g : TypedExpression) (m : Struct) → struct_of env s ≡ m → g.ctype ≡ struct s → TypedExpressionRight p vars g → Holds (TypedExpressionRight p vars) (member_of_struct env at x g m)
-      member_struct_right at s x g (defined_struct ms) e q h =
-          member_or_right at s ms g (number_among (map name_of_member ms) x) (defined_at env w.sound s ms e) q (λ k f. (let b = below (map name_of_member ms) x k f in let l = long ms in omega (arith, b, l))) h
-      member_struct_right at s x g m e q h = tt
-
-      member_type_right : (at : ℕ) (x : Name) (g : TypedExpression) (t : CType) → g.ctype ≡ t → TypedExpressionRight p vars g → Holds (TypedExpressionRight p vars) (member_of_type env at x g t)
-      member_type_right at x g (struct s) q h = member_struct_right at s x g (struct_of env s) refl q h
-      member_type_right at x g t q h = tt
+      member_given_right : (x : Name) (g h : TypedExpression) → IsMember env x g h → TypedExpressionRight p vars g → TypedExpressionRight p vars h
+      member_given_right x g h (a_member s ms k e d n) r =
+          member_place s ms g k (defined_at env w.sound s ms d) e (let b = below (map name_of_member ms) x k n in let l = long ms in omega (arith, b, l)) r
 
       pub member_right : (at : ℕ) (x : Name) (g : TypedExpression) → TypedExpressionRight p vars g → Holds (TypedExpressionRight p vars) (member_of env at x g)
-      member_right at x g h = member_type_right at x g g.ctype refl h
+      member_right at x g h = holds_map (IsMember env x g) (TypedExpressionRight p vars) (λ m k. member_given_right x g m k h) (member_of env at x g) (member_agrees env at at x g).has
 
   -- ## Addresses
 
-  address_form_right : (at : ℕ) (g : TypedExpression) (f : Form) → NotArray g.ctype → FormRight p vars g.ctype f g.constant → Holds (TypedExpressionRight p vars) (address_of_form at g f)
-  address_form_right at g (a_value e) n h = tt
-  address_form_right at g (a_place e) n h =
-      let same : type_of e ≡ g.ctype = seen_same g.ctype (type_of e) n h.0 in
-      demand_holds (TypedExpressionRight p vars) (few_parts (pointer g.ctype)) 13 at _ (λ _. (refl, (ap pointer (sym same), h.1), tt, subst (λ x. ConstRight p (pointer x) g.constant) same h.3))
-  address_form_right at g (behind q) n h = (h.0, h.1, tt, h.3)
-
-  address_type_right : (at : ℕ) (g : TypedExpression) (t : CType) → g.ctype ≡ t → TypedExpressionRight p vars g → Holds (TypedExpressionRight p vars) (address_of_type at g t)
-  address_type_right at g (array t n) e h = tt
-  address_type_right at g t e h = address_form_right at g g.form (subst NotArray (sym e) tt) h
+  address_of_right : (g h : TypedExpression) → IsAddress g h → TypedExpressionRight p vars g → TypedExpressionRight p vars h
+  address_of_right g h (of_place e f n) w =
+      let r = subst (λ f. FormRight p vars g.ctype f g.constant) f w in
+      let same : type_of e ≡ g.ctype = seen_same g.ctype (type_of e) n r.0 in
+      (refl, (ap pointer (sym same), r.1), tt, subst (λ x. ConstRight p (pointer x) g.constant) same r.3)
+  address_of_right g h (of_leader q f n) w = (let r = subst (λ f. FormRight p vars g.ctype f g.constant) f w in (r.0, r.1, tt, r.3))
 
   pub address_right : (at place : ℕ) (g : TypedExpression) → TypedExpressionRight p vars g → Holds (TypedExpressionRight p vars) (address at place g)
-  address_right at place g h = behind_demand (TypedExpressionRight p vars) (is_place g || is_function g.ctype) 4 place _ (λ _. address_type_right at g g.ctype refl h)
+  address_right at place g h = holds_map (IsAddress g) (TypedExpressionRight p vars) (λ x k. address_of_right g x k h) (address at place g) (address_agrees at at g place place).has
 
-  led_right : (structs : Structs) (at : ℕ) (g : TypedExpression) (t : CType) → g.ctype ≡ t → Made structs t → ValueRight p vars g → Holds (TypedExpressionRight p vars) (led_to at g t)
-  led_right structs at g (pointer void) e m h = tt
-  led_right structs at g (pointer (array t n)) e m h = absurd m.0
-  led_right structs at g (pointer t) e m h = (h.0 ∙ e, h.1, tt, subst (λ u. ConstRight p u g.constant) e h.3)
-  led_right structs at g t e m h = tt
+  led_right : (structs : Structs) (g h : TypedExpression) → IsLedTo g h → Made structs g.ctype → ValueRight p vars g → TypedExpressionRight p vars h
+  led_right structs g h (led t e n) m w =
+      let k : NotArray t × Made structs t = subst (Made structs) e m in
+      (w.0 ∙ e, w.1, thing_led t n k.0, subst (λ u. ConstRight p u g.constant) e w.3)
 
   pub indirection_right : (structs : Structs) (at : ℕ) (g : TypedExpression) → Made structs g.ctype → ValueRight p vars g → Holds (TypedExpressionRight p vars) (indirection at g)
-  indirection_right structs at g m h = led_right structs at g g.ctype refl m h
+  indirection_right structs at g m h = holds_map (IsLedTo g) (TypedExpressionRight p vars) (λ x k. led_right structs g x k m h) (indirection at g) (indirection_agrees at at g).has
 
   -- ## Unary operators
 
-  plus_right : (at : ℕ) (g : TypedExpression) (k : Kind) → kind_of g.ctype ≡ k → ValueRight p vars g → Holds (TypedExpressionRight p vars) (plus_of at g k)
-  plus_right at g (an_integer i) e h = cast_right p vars (promoted i) g (i, kind_integer g.ctype i e) h
-  plus_right at g k e h = tt
-
   fits_unary : (o : UnOp) (i : IntType) (u : CType) → (o ≡ Minus) ⊎ (o ≡ Complement) → u ≡ integer i → IsPromoted i → FitsUnary o (integer i) u
-  fits_unary Minus i u o e h = (i, refl, e, h)
-  fits_unary Complement i u o e h = (i, refl, e, h)
   fits_unary Not i u (inl o) e h = absurd (cc)
   fits_unary Not i u (inr o) e h = absurd (cc)
+  fits_unary o i u s e h = (i, refl, e, h)
 
-  operator_right : (at : ℕ) (o : UnOp) (g : TypedExpression) (k : Kind) → (o ≡ Minus) ⊎ (o ≡ Complement) → kind_of g.ctype ≡ k → ValueRight p vars g → Holds (TypedExpressionRight p vars) (operator_of at o g k)
-  operator_right at o g (an_integer i) s e h =
-      let c = converted_right p vars (promoted i) g (i, kind_integer g.ctype i e) h in
+  one_right : (structs : Structs) (g h : TypedExpression) → OfOne g h → Made structs g.ctype → ValueRight p vars g → TypedExpressionRight p vars h
+  one_right structs g h (leads x k) m w = led_right structs g x k m w
+  one_right structs g h (promotes i e) m w = cast_right p vars (promoted i) g (i, e) w
+  one_right structs g h (operates o i s e) m w =
+      let c = converted_right p vars (promoted i) g (i, e) w in
       (refl, (fits_unary o (promoted i) _ s (c.0.0 ∙ c.1) (promoted_is i), c.0.1), tt, unary_constant p o (promoted i) (converted_to (promoted i) g).ctype (converted_to (promoted i) g).constant c.1 (promoted_is i) s c.0.3)
-  operator_right at o g k s e h = tt
-
-  negation_right : (at : ℕ) (g : TypedExpression) → ValueRight p vars g → Holds (TypedExpressionRight p vars) (negation at g)
-  negation_right at g h = demand_holds (TypedExpressionRight p vars) (is_scalar g.ctype) 3 at _ (λ s. (refl, ((refl, subst IsScalar (sym h.0) (scalar_is g.ctype s)), h.1), tt, not_constant_right p (integer_constant g)))
+  one_right structs g h (negates s) m w = (refl, ((refl, subst IsScalar (sym w.0) (scalar_is g.ctype s)), w.1), tt, not_constant_right p (integer_constant g))
 
   pub unary_right : (structs : Structs) (at o : ℕ) (g : TypedExpression) → Made structs g.ctype → ValueRight p vars g → Holds (TypedExpressionRight p vars) (unary_of_value at o g)
-  unary_right structs at o g m h =
-      if_holds (TypedExpressionRight p vars) (nat_eq o punctuators.ASTERISK) _ _ (indirection_right structs at g m h)
-      (if_holds (TypedExpressionRight p vars) (nat_eq o punctuators.PLUS) _ _ (plus_right at g (kind_of g.ctype) refl h)
-      (if_holds (TypedExpressionRight p vars) (nat_eq o punctuators.MINUS) _ _ (operator_right at Minus g (kind_of g.ctype) (inl refl) refl h)
-      (if_holds (TypedExpressionRight p vars) (nat_eq o punctuators.TILDE) _ _ (operator_right at Complement g (kind_of g.ctype) (inr refl) refl h) (negation_right at g h))))
+  unary_right structs at o g m h = holds_map (OfOne g) (TypedExpressionRight p vars) (λ x k. one_right structs g x k m h) (unary_of_value at o g) (unary_agrees at at g o).has
 
   -- ## sizeof and casts
 
@@ -300,22 +274,19 @@ module _ (p : Program) (vars : List CType) where
   pointers_compared o a b m e h k = (refl, (record { gives = refl; alike = k.0 ∙ (e ∙ sym h.0); comparable = subst (AreComparable p.structs (kind_of_operator o)) (sym h.0) m }, h.1, k.1), tt, tt)
 
   module _ (env : Env) (w : AreWithin (layout_of env) p.structs) where
-    pointer_object : (at : ℕ) (u t : CType) → u ≡ pointer t → Made (layout_of env) u → Holds (λ _. IsObjectPointer p.structs u) (complete env at t)
-    pointer_object at u t e m =
+    pointer_object : (at : ℕ) (u t : CType) → u ≡ pointer t → Made (layout_of env) u → complete env at t ≡ fine met → IsObjectPointer p.structs u
+    pointer_object at u t e m c =
         let n : NotArray t × Made (layout_of env) t = subst (Made (layout_of env)) e m in
-        holds_map (λ _. IsComplete (layout_of env) t) (λ _. IsObjectPointer p.structs u) (λ _ c. (t, e, object_in (layout_of env) p.structs w t n.0 c)) (complete env at t) (complete_known env at t n.1)
+        (t, e, object_in (layout_of env) p.structs w t n.0 (held (λ _. IsComplete (layout_of env) t) (complete env at t) met (complete_known env at t n.1) c))
 
-    pointer_plus_right : (t : CType) (a b : TypedExpression) → a.ctype ≡ pointer t → IsObjectPointer p.structs a.ctype → IsIntegerType b.ctype → ValueRight p vars a → ValueRight p vars b → TypedExpressionRight p vars (pointer_plus t a b)
-    pointer_plus_right t a b e o s h k =
-        (refl, ((h.0 ∙ e, subst (IsObjectPointer p.structs) e o, subst IsIntegerType (sym k.0) s), h.1, k.1), tt, moved_constant p t a.constant (λ z. z) b.constant (subst (λ u. ConstRight p u a.constant) e h.3))
+    -- a pointer plus or minus an integer
+    pointer_moved_right : (t : CType) (minus : Bool) (sign : ℤ → ℤ) (a b : TypedExpression) → a.ctype ≡ pointer t → IsObjectPointer p.structs a.ctype → IsIntegerType b.ctype → ValueRight p vars a → ValueRight p vars b → TypedExpressionRight p vars (typed_value (pointer t) (pointer_add (pointer t) true minus (tree_of a) (tree_of b)) (constant_moved a.constant sign b.constant))
+    pointer_moved_right t minus sign a b e o s h k =
+        (refl, ((h.0 ∙ e, subst (IsObjectPointer p.structs) e o, subst IsIntegerType (sym k.0) s), h.1, k.1), tt, moved_constant p t a.constant sign b.constant (subst (λ u. ConstRight p u a.constant) e h.3))
 
     plus_pointer_right : (t : CType) (a b : TypedExpression) → b.ctype ≡ pointer t → IsObjectPointer p.structs b.ctype → IsIntegerType a.ctype → ValueRight p vars a → ValueRight p vars b → TypedExpressionRight p vars (plus_pointer t a b)
     plus_pointer_right t a b e o s h k =
         (refl, ((k.0 ∙ e, subst (IsObjectPointer p.structs) e o, subst IsIntegerType (sym h.0) s, refl), h.1, k.1), tt, moved_constant p t b.constant (λ z. z) a.constant (subst (λ u. ConstRight p u b.constant) e k.3))
-
-    pointer_minus_right : (t : CType) (a b : TypedExpression) → a.ctype ≡ pointer t → IsObjectPointer p.structs a.ctype → IsIntegerType b.ctype → ValueRight p vars a → ValueRight p vars b → TypedExpressionRight p vars (pointer_minus t a b)
-    pointer_minus_right t a b e o s h k =
-        (refl, ((h.0 ∙ e, subst (IsObjectPointer p.structs) e o, subst IsIntegerType (sym k.0) s), h.1, k.1), tt, moved_constant p t a.constant _ b.constant (subst (λ u. ConstRight p u a.constant) e h.3))
 
     difference_right : (a b : TypedExpression) → b.ctype ≡ a.ctype → IsObjectPointer p.structs a.ctype → ValueRight p vars a → ValueRight p vars b → TypedExpressionRight p vars (difference a b)
     difference_right a b e o h k = (refl, (refl, subst (IsObjectPointer p.structs) (sym h.0) o, k.0 ∙ (e ∙ sym h.0), h.1, k.1), tt, tt)
@@ -327,82 +298,30 @@ module _ (p : Program) (vars : List CType) where
     abbrev pub SumRight : TypedExpression → Type 0
     SumRight g = TypedExpressionRight p vars g × ValueRight p vars g
 
-    sum_of_right : (at : ℕ) (a b : TypedExpression) (k l : Kind) → kind_of a.ctype ≡ k → kind_of b.ctype ≡ l → IsMadeRight a → IsMadeRight b → Holds SumRight (sum_of env at a b k l)
-    sum_of_right at a b (an_integer i) (an_integer j) e f g h = (let c = calculated_right op.Add (common i j) (common i j) a b (common_is i j, refl) (i, kind_integer a.ctype i e) (j, kind_integer b.ctype j f) g.1 h.1 in (c, c))
-    sum_of_right at a b (a_pointer t) (an_integer j) e f g h =
-        on_holds (λ _. IsObjectPointer p.structs a.ctype) SumRight (complete env at t) _ (pointer_object at a.ctype t (kind_pointer a.ctype t e) g.0) (λ _ o. (let c = pointer_plus_right t a b (kind_pointer a.ctype t e) o (j, kind_integer b.ctype j f) g.1 h.1 in (c, c)))
-    sum_of_right at a b (an_integer i) (a_pointer t) e f g h =
-        on_holds (λ _. IsObjectPointer p.structs b.ctype) SumRight (complete env at t) _ (pointer_object at b.ctype t (kind_pointer b.ctype t f) h.0) (λ _ o. (let c = plus_pointer_right t a b (kind_pointer b.ctype t f) o (i, kind_integer a.ctype i e) g.1 h.1 in (c, c)))
-    sum_of_right at a b k l e f g h = tt
+    abbrev PointersRight : TypedExpression → TypedExpression → Type 0
+    PointersRight x y = ValueRight p vars x × ValueRight p vars y × (y.ctype ≡ x.ctype) × ((u : CType) × (x.ctype ≡ pointer u))
 
-    pub sum_right : (at : ℕ) (a b : TypedExpression) → IsMadeRight a → IsMadeRight b → Holds SumRight (sum env at a b)
-    sum_right at a b g h = sum_of_right at a b (kind_of a.ctype) (kind_of b.ctype) refl refl g h
+    pointers_right : (a b x y : TypedExpression) → ArePointers a b x y → ValueRight p vars a → ValueRight p vars b → PointersRight x y
+    pointers_right a b x y (as_given t e f) g h = (g, h, f, (t, e))
+    pointers_right a b x y (left_null t e n) g h = (null_right p vars b.ctype t e, h, refl, (t, e))
+    pointers_right a b x y (right_null t e n) g h = (g, null_right p vars a.ctype t e, refl, (t, e))
 
-    two_pointers : (a b : TypedExpression) (t u : CType) → kind_of a.ctype ≡ a_pointer t → kind_of b.ctype ≡ a_pointer u → same_type t u ≡ true → b.ctype ≡ a.ctype
-    two_pointers a b t u e f s = kind_pointer b.ctype u f ∙ (ap pointer (sym (type_is t u s)) ∙ sym (kind_pointer a.ctype t e))
+    -- what holds of a value as an expression holds of it as a value
+    two_right : (at : ℕ) (a b g : TypedExpression) → OfTwo env at a b g → IsMadeRight a → IsMadeRight b → SumRight g
+    two_right at a b g (calculates o i j f s t) h k = (let r = calculated_right o i j a b f s t h.1 k.1 in (r, r))
+    two_right at a b g (compares o i m f s t) h k = (let r = compared_right o i a b m f s t h.1 k.1 in (r, r))
+    two_right at a b g (orders o t q e s c) h k = (let r = pointers_compared o a b (subst (λ y. AreComparable p.structs y a.ctype) (sym q) (inr (pointer_object at a.ctype t e h.0 c))) s h.1 k.1 in (r, r))
+    two_right at a b g (equals o x y q l) h k =
+        let s = pointers_right a b x y l h.1 k.1 in
+        let r = pointers_compared o x y (subst (λ z. AreComparable p.structs z x.ctype) (sym q) (inr s.3)) s.2 s.0 s.1 in
+        (r, r)
+    two_right at a b g (adds_right t e i c) h k = (let r = pointer_moved_right t false (λ z. z) a b e (pointer_object at a.ctype t e h.0 c) i h.1 k.1 in (r, r))
+    two_right at a b g (adds_left t e i c) h k = (let r = plus_pointer_right t a b e (pointer_object at b.ctype t e k.0 c) i h.1 k.1 in (r, r))
+    two_right at a b g (takes t e i c) h k = (let r = pointer_moved_right t true (λ z. neg_ℤ z) a b e (pointer_object at a.ctype t e h.0 c) i h.1 k.1 in (r, r))
+    two_right at a b g (differs t e s c) h k = (let r = difference_right a b s (pointer_object at a.ctype t e h.0 c) h.1 k.1 in (r, r))
 
-    minus_of_right : (at : ℕ) (a b : TypedExpression) (k l : Kind) → kind_of a.ctype ≡ k → kind_of b.ctype ≡ l → IsMadeRight a → IsMadeRight b → Holds (TypedExpressionRight p vars) (minus_of env at a b k l)
-    minus_of_right at a b (an_integer i) (an_integer j) e f g h = calculated_right op.Sub (common i j) (common i j) a b (common_is i j, refl) (i, kind_integer a.ctype i e) (j, kind_integer b.ctype j f) g.1 h.1
-    minus_of_right at a b (a_pointer t) (an_integer j) e f g h =
-        on_holds (λ _. IsObjectPointer p.structs a.ctype) (TypedExpressionRight p vars) (complete env at t) _ (pointer_object at a.ctype t (kind_pointer a.ctype t e) g.0) (λ _ o. pointer_minus_right t a b (kind_pointer a.ctype t e) o (j, kind_integer b.ctype j f) g.1 h.1)
-    minus_of_right at a b (a_pointer t) (a_pointer u) e f g h =
-        behind_demand (TypedExpressionRight p vars) (same_type t u) 3 at _ (λ s. on_holds (λ _. IsObjectPointer p.structs a.ctype) (TypedExpressionRight p vars) (complete env at t) _ (pointer_object at a.ctype t (kind_pointer a.ctype t e) g.0) (λ _ o. difference_right a b (two_pointers a b t u e f s) o g.1 h.1))
-    minus_of_right at a b k l e f g h = tt
-
-    balanced_right : (at : ℕ) (o : BinOp) (a b : TypedExpression) (k l : Kind) → kind_of_operator o ≡ balanced → kind_of a.ctype ≡ k → kind_of b.ctype ≡ l → IsMadeRight a → IsMadeRight b → Holds (TypedExpressionRight p vars) (balanced_of at o a b k l)
-    balanced_right at o a b (an_integer i) (an_integer j) q e f g h =
-        calculated_right o (common i j) (common i j) a b (subst (λ x. AreOperands x (common i j) (common i j)) (sym q) (common_is i j, refl)) (i, kind_integer a.ctype i e) (j, kind_integer b.ctype j f) g.1 h.1
-    balanced_right at o a b k l q e f g h = tt
-
-    shift_right : (at : ℕ) (o : BinOp) (a b : TypedExpression) (k l : Kind) → kind_of_operator o ≡ shift → kind_of a.ctype ≡ k → kind_of b.ctype ≡ l → IsMadeRight a → IsMadeRight b → Holds (TypedExpressionRight p vars) (shift_of at o a b k l)
-    shift_right at o a b (an_integer i) (an_integer j) q e f g h =
-        calculated_right o (promoted i) (promoted j) a b (subst (λ x. AreOperands x (promoted i) (promoted j)) (sym q) (promoted_is i, promoted_is j)) (i, kind_integer a.ctype i e) (j, kind_integer b.ctype j f) g.1 h.1
-    shift_right at o a b k l q e f g h = tt
-
-    ordered_right : (at : ℕ) (o : BinOp) (a b : TypedExpression) (k l : Kind) → kind_of_operator o ≡ ordering → kind_of a.ctype ≡ k → kind_of b.ctype ≡ l → IsMadeRight a → IsMadeRight b → Holds (TypedExpressionRight p vars) (ordered_of env at o a b k l)
-    ordered_right at o a b (an_integer i) (an_integer j) q e f g h =
-        compared_right o (common i j) a b (subst IsComparison (sym q) tt) (common_is i j) (i, kind_integer a.ctype i e) (j, kind_integer b.ctype j f) g.1 h.1
-    ordered_right at o a b (a_pointer t) (a_pointer u) q e f g h =
-        behind_demand (TypedExpressionRight p vars) (same_type t u) 3 at _ (λ s. on_holds (λ _. IsObjectPointer p.structs a.ctype) (TypedExpressionRight p vars) (complete env at t) _ (pointer_object at a.ctype t (kind_pointer a.ctype t e) g.0) (λ _ x. pointers_compared o a b (subst (λ y. AreComparable p.structs y a.ctype) (sym q) (inr x)) (two_pointers a b t u e f s) g.1 h.1))
-    ordered_right at o a b k l q e f g h = tt
-
-    -- operands that are made alike
-    abbrev AlikeRight : TypedExpression → TypedExpression → Alike → Type 0
-    AlikeRight a b (alike_integers i) = IsPromoted i × IsIntegerType a.ctype × IsIntegerType b.ctype
-    AlikeRight a b (alike_pointers x y) = ValueRight p vars x × ValueRight p vars y × (y.ctype ≡ x.ctype) × ((u : CType) × (x.ctype ≡ pointer u))
-    AlikeRight a b unlike = Unit {0}
-
-    pointers_right : (a b : TypedExpression) (t u : CType) → a.ctype ≡ pointer t → b.ctype ≡ pointer u → ValueRight p vars a → ValueRight p vars b → AlikeRight a b (pointers_alike a b)
-    pointers_right a b t u e f g h =
-        either (AlikeRight a b) (same_type a.ctype b.ctype) (alike_pointers a b) _ (λ s. (g, h, sym (type_is a.ctype b.ctype s), (t, e)))
-        (either (AlikeRight a b) (is_null a) (alike_pointers (null_of b.ctype) b) _ (λ _. (null_right p vars b.ctype u f, h, refl, (u, f)))
-        (either (AlikeRight a b) (is_null b) (alike_pointers a (null_of a.ctype)) unlike (λ _. (g, null_right p vars a.ctype t e, refl, (t, e))) tt))
-
-    alike_of_right : (a b : TypedExpression) (k l : Kind) → kind_of a.ctype ≡ k → kind_of b.ctype ≡ l → ValueRight p vars a → ValueRight p vars b → AlikeRight a b (alike_of a b k l)
-    alike_of_right a b (an_integer i) (an_integer j) e f g h = (common_is i j, (i, kind_integer a.ctype i e), (j, kind_integer b.ctype j f))
-    alike_of_right a b (a_pointer t) (a_pointer u) e f g h = pointers_right a b t u (kind_pointer a.ctype t e) (kind_pointer b.ctype u f) g h
-    alike_of_right a b (a_pointer t) (an_integer j) e f g h = either (AlikeRight a b) (is_null b) (alike_pointers a (null_of a.ctype)) unlike (λ _. (g, null_right p vars a.ctype t (kind_pointer a.ctype t e), refl, (t, kind_pointer a.ctype t e))) tt
-    alike_of_right a b (an_integer i) (a_pointer u) e f g h = either (AlikeRight a b) (is_null a) (alike_pointers (null_of b.ctype) b) unlike (λ _. (null_right p vars b.ctype u (kind_pointer b.ctype u f), h, refl, (u, kind_pointer b.ctype u f))) tt
-    alike_of_right a b k l e f g h = tt
-
-    equality_right : (at : ℕ) (o : BinOp) (a b : TypedExpression) (x : Alike) → kind_of_operator o ≡ equality → AlikeRight a b x → ValueRight p vars a → ValueRight p vars b → Holds (TypedExpressionRight p vars) (equality_of at o a b x)
-    equality_right at o a b (alike_integers i) q s g h = compared_right o i a b (subst IsComparison (sym q) tt) s.0 s.1 s.2 g h
-    equality_right at o a b (alike_pointers x y) q s g h = pointers_compared o x y (subst (λ k. AreComparable p.structs k x.ctype) (sym q) (inr s.3)) s.2 s.0 s.1
-    equality_right at o a b unlike q s g h = tt
-
-    arithmetic_right : (at : ℕ) (o : BinOp) (a b : TypedExpression) → kind_of_operator o ≡ balanced → IsMadeRight a → IsMadeRight b → Holds (TypedExpressionRight p vars) (arithmetic_of env at o a b)
-    arithmetic_right at op.Add a b q g h = holds_map SumRight (TypedExpressionRight p vars) (λ x k. k.0) (sum env at a b) (sum_right at a b g h)
-    arithmetic_right at op.Sub a b q g h = minus_of_right at a b (kind_of a.ctype) (kind_of b.ctype) refl refl g h
-    arithmetic_right at o a b q g h = balanced_right at _ a b (kind_of a.ctype) (kind_of b.ctype) q refl refl g h
-
-    operation_of_right : (at : ℕ) (o : BinOp) (a b : TypedExpression) (k : OperatorKind) → kind_of_operator o ≡ k → IsMadeRight a → IsMadeRight b → Holds (TypedExpressionRight p vars) (operation_of env at o a b k)
-    operation_of_right at o a b balanced q g h = arithmetic_right at o a b q g h
-    operation_of_right at o a b shift q g h = shift_right at o a b (kind_of a.ctype) (kind_of b.ctype) q refl refl g h
-    operation_of_right at o a b ordering q g h = ordered_right at o a b (kind_of a.ctype) (kind_of b.ctype) q refl refl g h
-    operation_of_right at o a b equality q g h = equality_right at o a b (alike a b) q (alike_of_right a b (kind_of a.ctype) (kind_of b.ctype) refl refl g.1 h.1) g.1 h.1
-
-    pub operation_right : (at : ℕ) (o : BinOp) (a b : TypedExpression) → IsMadeRight a → IsMadeRight b → Holds (TypedExpressionRight p vars) (operation env at o a b)
-    operation_right at o a b g h = operation_of_right at o a b (kind_of_operator o) refl g h
+    pub operation_right : (at : ℕ) (o : BinOp) (a b : TypedExpression) → IsMadeRight a → IsMadeRight b → Holds SumRight (operation env at o a b)
+    operation_right at o a b h k = holds_map (OfTwo env at a b) SumRight (λ g x. two_right at a b g x h k) (operation env at o a b) (operation_agrees env at at a b o).has
 
     scalar_tree : (g : TypedExpression) → is_scalar g.ctype ≡ true → ValueRight p vars g → IsScalar (type_of (tree_of g)) × IsValue p vars (tree_of g)
     scalar_tree g s h = (subst IsScalar (sym h.0) (scalar_is g.ctype s), h.1)
@@ -424,18 +343,17 @@ module _ (p : Program) (vars : List CType) where
           (integer_part p t (is_integer a.ctype) a.constant (subst (λ u. ConstRight p u a.constant) e g.3)) (integer_part p t (is_integer b.ctype) b.constant (subst (λ u. ConstRight p u b.constant) f h.3)),
     )
 
-    arms_right : (at : ℕ) (c a b : TypedExpression) (x : Alike) → IsScalar (type_of (tree_of c)) × IsValue p vars (tree_of c) → AlikeRight a b x → ValueRight p vars a → ValueRight p vars b → Holds (TypedExpressionRight p vars) (arms_of at c a b x)
-    arms_right at c a b (alike_integers i) s k g h =
-        let l = converted_right p vars i a k.1 g in
-        let r = converted_right p vars i b k.2 h in
-        chosen_right (integer i) c (converted_to i a) (converted_to i b) s tt l.1 r.1 l.0 r.0
-    arms_right at c a b (alike_pointers x y) s k g h = chosen_right x.ctype c x y s k.0.2 refl k.2 k.0 k.1
-    arms_right at c a b unlike s k g h =
-        demand_holds (TypedExpressionRight p vars) (is_void a.ctype && is_void b.ctype) 3 at _ (λ e. chosen_right void c a b s tt (void_is a.ctype (and_left (is_void a.ctype) (is_void b.ctype) e)) (void_is b.ctype (and_right (is_void a.ctype) (is_void b.ctype) e)) g h)
+    choice_of_right : (c a b g : TypedExpression) → OfChoice c a b g → ValueRight p vars c → ValueRight p vars a → ValueRight p vars b → TypedExpressionRight p vars g
+    choice_of_right c a b g (integers_chosen i s j k) f h l =
+        let m = converted_right p vars i a j h in
+        let n = converted_right p vars i b k l in
+        chosen_right (integer i) c (converted_to i a) (converted_to i b) (scalar_tree c s f) tt m.1 n.1 m.0 n.0
+    choice_of_right c a b g (pointers_chosen x y s q) f h l = (let k = pointers_right a b x y q h l in chosen_right x.ctype c x y (scalar_tree c s f) k.0.2 refl k.2 k.0 k.1)
+    choice_of_right c a b g (voids_chosen s e) f h l =
+        chosen_right void c a b (scalar_tree c s f) tt (void_is a.ctype (and_left (is_void a.ctype) (is_void b.ctype) e)) (void_is b.ctype (and_right (is_void a.ctype) (is_void b.ctype) e)) h l
 
     pub choice_right : (at : ℕ) (c a b : TypedExpression) → ValueRight p vars c → ValueRight p vars a → ValueRight p vars b → Holds (TypedExpressionRight p vars) (choice at c a b)
-    choice_right at c a b f g h =
-        behind_demand (TypedExpressionRight p vars) (is_scalar c.ctype) 3 at _ (λ s. arms_right at c a b (alike a b) (scalar_tree c s f) (alike_of_right a b (kind_of a.ctype) (kind_of b.ctype) refl refl g h) g h)
+    choice_right at c a b f h k = holds_map (OfChoice c a b) (TypedExpressionRight p vars) (λ g x. choice_of_right c a b g x f h k) (choice at c a b) (choice_agrees at at c a b).has
 
     -- ## Assignments
 
@@ -450,35 +368,31 @@ module _ (p : Program) (vars : List CType) where
     place_tree : (g : TypedExpression) → PlaceRight g → IsScalar g.ctype → IsPlace p vars (tree_of g) × (type_of (tree_of g) ≡ g.ctype)
     place_tree g h s = place_form g.ctype g.form g.constant h.1 s (scalar_not_array g.ctype s) h.0
 
-    assignment_right : (at : ℕ) (a b : TypedExpression) → PlaceRight a → ValueRight p vars b → Holds (TypedExpressionRight p vars) (assignment at a b)
-    assignment_right at a b g h =
-        demand_holds (TypedExpressionRight p vars) (fits a.ctype b) 3 at _ (λ f.
-        (let s = fits_scalar p vars a.ctype b f in let t = place_tree a g s in let r = assigned_right p vars a.ctype b f h in
-        (refl, (s, t.1, r.0.0 ∙ r.1, t.0, r.0.1), scalar_result p.structs a.ctype s, tt)))
-
     updated_right : (o : BinOp) (old : Bool) (a : TypedExpression) (e : Expr) → PlaceRight a → IsScalar a.ctype → FitsUpdate p.structs o a.ctype (type_of e) → IsValue p vars e → TypedExpressionRight p vars (updated o old a e)
     updated_right o old a e g s f h = (let t = place_tree a g s in (refl, (f, t.1, t.0, h), scalar_result p.structs a.ctype s, tt))
 
-    update_right : (at : ℕ) (o : BinOp) (old : Bool) (a b : TypedExpression) (k l : Kind) → IsCalculation (kind_of_operator o) → kind_of a.ctype ≡ k → kind_of b.ctype ≡ l → Made (layout_of env) a.ctype → PlaceRight a → ValueRight p vars b → Holds (TypedExpressionRight p vars) (update_of env at o old a b k l)
-    update_right at o old a b (an_integer i) (an_integer j) q e f m g h =
+    update_right : (at : ℕ) (o : BinOp) (a b g : TypedExpression) → OfUpdate env at o a b g → IsCalculation (kind_of_operator o) → Made (layout_of env) a.ctype → PlaceRight a → ValueRight p vars b → TypedExpressionRight p vars g
+    update_right at o a b g (assigns f) q m h k =
+        let s = fits_scalar p vars a.ctype b f in let t = place_tree a h s in let r = assigned_right p vars a.ctype b f k in
+        (refl, (s, t.1, r.0.0 ∙ r.1, t.0, r.0.1), scalar_result p.structs a.ctype s, tt)
+    update_right at o a b g (updates old i j e f) q m h k =
         let r : IntType = right_type (kind_of_operator o) i j in
-        let c = converted_right p vars r b (j, kind_integer b.ctype j f) h in
-        updated_right o old a (tree_of (converted_to r b)) g (subst IsScalar (sym (kind_integer a.ctype i e)) tt) (inl (i, r, kind_integer a.ctype i e, c.0.0 ∙ c.1, right_side (kind_of_operator o) i j q)) c.0.1
-    update_right at o old a b (a_pointer t) (an_integer j) q e f m g h =
-        behind_demand (TypedExpressionRight p vars) (moves o) 3 at _ (λ s. on_holds (λ _. IsObjectPointer p.structs a.ctype) (TypedExpressionRight p vars) (complete env at t) _ (pointer_object at a.ctype t (kind_pointer a.ctype t e) m)
-        (λ _ x. updated_right o old a (tree_of b) g (subst IsScalar (sym (kind_pointer a.ctype t e)) tt) (inr (moves_pointers o s, x, subst IsIntegerType (sym h.0) (j, kind_integer b.ctype j f))) h.1))
-    update_right at o old a b k l q e f m g h = tt
+        let c = converted_right p vars r b (j, f) k in
+        updated_right o old a (tree_of (converted_to r b)) h (subst IsScalar (sym e) tt) (inl (i, r, e, c.0.0 ∙ c.1, right_side (kind_of_operator o) i j q)) c.0.1
+    update_right at o a b g (moved old t n e i c) q m h k = updated_right o old a (tree_of b) h (subst IsScalar (sym e) tt) (inr (moves_pointers o n, pointer_object at a.ctype t e m c, subst IsIntegerType (sym k.0) i)) k.1
 
     pub assignment_by_right : (at code : ℕ) (a b : TypedExpression) → Made (layout_of env) a.ctype → PlaceRight a → ValueRight p vars b → Holds (TypedExpressionRight p vars) (assignment_by env at code a b)
-    assignment_by_right at code a b m g h =
-        if_holds (TypedExpressionRight p vars) (nat_eq code punctuators.ASSIGN) _ _ (assignment_right at a b g h) (update_right at (operator_of_assignment code) false a b (kind_of a.ctype) (kind_of b.ctype) (assignment_calculates code) refl refl m g h)
+    assignment_by_right at code a b m h k =
+        holds_map (OfUpdate env at (operator_of_assignment code) a b) (TypedExpressionRight p vars) (λ g u. update_right at (operator_of_assignment code) a b g u (assignment_calculates code) m h k) (assignment_by env at code a b) (assignment_agrees env at at code a b).has
 
-    one_right : (k : Kind) → ValueRight p vars (one_for k)
-    one_right (an_integer i) = (refl, value_of_type (common i widths.Int) (pos 1), tt, tt)
-    one_right k = (refl, (refl, grind arith), tt, tt)
+    one_for_right : (k : Kind) → ValueRight p vars (one_for k)
+    one_for_right (an_integer i) = (refl, value_of_type (common i widths.Int) (pos 1), tt, tt)
+    one_for_right k = (refl, (refl, grind arith), tt, tt)
 
     pub step_right : (at : ℕ) (o : BinOp) (old : Bool) (a : TypedExpression) → IsCalculation (kind_of_operator o) → Made (layout_of env) a.ctype → PlaceRight a → Holds (TypedExpressionRight p vars) (step env at o old a)
-    step_right at o old a q m g = update_right at o old a (one_for (kind_of a.ctype)) (kind_of a.ctype) (kind_of (one_for (kind_of a.ctype)).ctype) q refl refl m g (one_right (kind_of a.ctype))
+    step_right at o old a q m h =
+        let one : TypedExpression = one_for (kind_of a.ctype) in
+        holds_map (OfUpdate env at o a one) (TypedExpressionRight p vars) (λ g u. update_right at o a one g u q m h (one_for_right (kind_of a.ctype))) (step env at o old a) (step_agrees env at at o old a).has
 
   -- ## The comma
 

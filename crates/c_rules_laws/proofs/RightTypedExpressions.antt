@@ -36,7 +36,7 @@ use Rattle.c_rules_laws.proofs.Holding.{Holds, demand_holds, and_left, either}
 use Rattle.c_rules_laws.proofs.MadeTypes.{integer_is, scalar_is, type_is, complete_kept, result_not_array}
 use Rattle.c_rules_laws.proofs.SoundStructs.{object_is, same_flat}
 use Rattle.c_rules_laws.proofs.SizeBounds.{has_cell}
-use Rattle.c_rules_laws.proofs.TypesOfTypedExpressions.{kind_pointer, kind_integer}
+use Rattle.c_rules_laws.proofs.Operators.{kind_pointer, kind_integer}
 
 -- no void and no array
 abbrev pub IsLed : CType → Type 0
@@ -53,6 +53,11 @@ scalar_of t r h = absurd r
 pub led_thing : (t : CType) → IsLed t → IsThing t
 led_thing void h = absurd h
 led_thing t h = tt
+
+pub thing_led : (t : CType) → IsThing t → NotArray t → IsLed t
+thing_led void h n = absurd h
+thing_led (array t k) h n = absurd n
+thing_led t h n = tt
 
 pub complete_thing : (structs : Structs) (t : CType) → IsComplete structs t → IsThing t
 complete_thing structs void h = absurd h
@@ -82,14 +87,6 @@ pub integer_type : (t : CType) → is_integer t ≡ true → IsIntegerType t
 integer_type (integer i) h = (i, refl)
 integer_type t h = absurd (cc)
 
-pub promoted_is : (i : IntType) → IsPromoted (promoted i)
-promoted_is Char = tt
-promoted_is i = tt
-
-pub common_is : (i j : IntType) → IsPromoted (common i j)
-common_is Uint j = tt
-common_is i j = promoted_is j
-
 module _ (old new : Structs) (w : AreWithin old new) where
   pub complete_in : (t : CType) → IsComplete old t → IsComplete new t
   complete_in t c = complete_kept old new w.grows.kept t c
@@ -109,9 +106,8 @@ module _ (p : Program) where
 
   -- a constant of the type
   abbrev pub ConstRight : CType → Constant → Type 0
-  ConstRight t not_constant = Unit {0}
-  ConstRight t undefined = Unit {0}
   ConstRight t (known x) = HasType p (static_objects p) t x
+  ConstRight t c = Unit {0}
 
   pub integer_value : (t : CType) (i : IntType) (x : Value) → t ≡ integer i → HasType p (static_objects p) t x → IsConstant t x
   integer_value t i v.Indeterminate e h = absurd h
@@ -152,19 +148,16 @@ module _ (p : Program) where
   not_constant_right (known x) = not_right x
   not_constant_right c = tt
 
-  negated_right : (op : UnOp) (i : IntType) (z : ℤ) → IsPromoted i → (op ≡ Minus) ⊎ (op ≡ Complement) → IsAnswer (integer i) (negated op i z)
-  negated_right Minus i z h o = settled i _ h
-  negated_right Complement i z h o = settled i _ h
-  negated_right Not i z h (inl e) = absurd (cc)
-  negated_right Not i z h (inr e) = absurd (cc)
+  negated_right : (op : UnOp) (i j : IntType) (z : ℤ) → IsPromoted j → integer i ≡ integer j → (op ≡ Minus) ⊎ (op ≡ Complement) → ConstRight (integer i) (answered (negated op j z))
+  negated_right Not i j z h e (inl o) = absurd (cc)
+  negated_right Not i j z h e (inr o) = absurd (cc)
+  negated_right op i j z h e o = subst (λ t. ConstRight t (answered (negated op j z))) (sym e) (answer_right (integer j) (negated op j z) (settled j _ h))
 
   unary_right : (op : UnOp) (i : IntType) (x : Value) → IsPromoted i → (op ≡ Minus) ⊎ (op ≡ Complement) → IsConstant (integer i) x → ConstRight (integer i) (answered (unary op x))
   unary_right Not i x h (inl e) c = absurd (cc)
   unary_right Not i x h (inr e) c = absurd (cc)
-  unary_right Minus i (v.Int z) h o c = (let e : integer Int ≡ integer i = sym c.0 in subst (λ t. ConstRight t (answered (negated Minus Int z))) e (answer_right (integer Int) (negated Minus Int z) (negated_right Minus Int z tt (inl refl))))
-  unary_right Minus i (v.Uint n) h o c = (let e : integer Uint ≡ integer i = sym c.0 in subst (λ t. ConstRight t (answered (negated Minus Uint (pos n)))) e (answer_right (integer Uint) (negated Minus Uint (pos n)) (negated_right Minus Uint (pos n) tt (inl refl))))
-  unary_right Complement i (v.Int z) h o c = (let e : integer Int ≡ integer i = sym c.0 in subst (λ t. ConstRight t (answered (negated Complement Int z))) e (answer_right (integer Int) (negated Complement Int z) (negated_right Complement Int z tt (inr refl))))
-  unary_right Complement i (v.Uint n) h o c = (let e : integer Uint ≡ integer i = sym c.0 in subst (λ t. ConstRight t (answered (negated Complement Uint (pos n)))) e (answer_right (integer Uint) (negated Complement Uint (pos n)) (negated_right Complement Uint (pos n) tt (inr refl))))
+  unary_right op i (v.Int z) h o c = negated_right op i Int z tt c.0 o
+  unary_right op i (v.Uint n) h o c = negated_right op i Uint (pos n) tt c.0 o
   unary_right op i x h o c = tt
 
   pub unary_constant : (op : UnOp) (i : IntType) (t : CType) (c : Constant) → t ≡ integer i → IsPromoted i → (op ≡ Minus) ⊎ (op ≡ Complement) → ConstRight t c → ConstRight (integer i) (constant_unary op c)

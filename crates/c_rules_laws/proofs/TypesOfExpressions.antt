@@ -32,7 +32,7 @@ use Rattle.c_rules_laws.specs.MadeTypes.{Made, AllMade}
 use Rattle.c_rules_laws.specs.RightScopes.{MeaningTyped, IsKnown}
 use Rattle.c_rules_laws.proofs.Holding.{Holds, on_holds, both_hold, all_three_hold, Any, anything, demand_holds, behind_demand, after_part, if_holds}
 use Rattle.c_rules_laws.proofs.MadeTypes.{scalar_is, result_is, few_unless_array, complete_known}
-use Rattle.c_rules_laws.proofs.TypesOfTypedExpressions.{TypedExpressionSized, TypedExpressionTyped, TypedExpressionsTyped, IsCalleeTyped, sized_int, valued_typed, called_typed, callee_type, callee_through_typed, address_typed, indirection_typed, unary_typed, cast_typed, null_cast_typed, sum_typed, operation_typed, conjunction_typed, disjunction_typed, choice_typed, assignable_typed, assignment_by_typed, step_typed, comma_typed, member_typed}
+use Rattle.c_rules_laws.proofs.TypesOfTypedExpressions.{TypedExpressionSized, TypedExpressionTyped, TypedExpressionsTyped, IsCalleeTyped, sized_int, valued_typed, called_typed, callee_type, callee_through_typed, address_typed, indirection_typed, unary_typed, cast_typed, null_cast_typed, operation_typed, conjunction_typed, disjunction_typed, choice_typed, assignable_typed, assignment_by_typed, step_typed, comma_typed, member_typed}
 
 -- ## Declarators
 
@@ -210,7 +210,7 @@ mutual
   tree_typed (unary at o e) env w l b = unary_rule_typed env at (place_of e) o (tree env b e) (tree_typed e env w l b)
   tree_typed (index at e f) env w l b =
       on_holds (Sized env) (Sized env) (both (value_at env (place_of e) (tree env b e)) (value_at env (place_of f) (tree env (after b e) f)) (sum env at)) (indirection at)
-      (both_hold (Typed env) (Typed env) (Sized env) (value_at env (place_of e) (tree env b e)) (value_at env (place_of f) (tree env (after b e) f)) (sum env at) (value_at_typed env (place_of e) (tree env b e) (tree_typed e env w l.0 b)) (value_at_typed env (place_of f) (tree env (after b e) f) (tree_typed f env w l.1 (after b e))) (λ g h k m. sum_typed (layout_of env) env at g h k m))
+      (both_hold (Typed env) (Typed env) (Sized env) (value_at env (place_of e) (tree env b e)) (value_at env (place_of f) (tree env (after b e) f)) (sum env at) (value_at_typed env (place_of e) (tree env b e) (tree_typed e env w l.0 b)) (value_at_typed env (place_of f) (tree env (after b e) f) (tree_typed f env w l.1 (after b e))) (λ g h k m. operation_typed (layout_of env) env at Add g h k m))
       (λ g k. indirection_typed (layout_of env) at g k.made)
   tree_typed (binary at o e f) env w l b =
       both_hold (Typed env) (Typed env) (Sized env) (value_at env (place_of e) (tree env b e)) (value_at env (place_of f) (tree env (after b e) f)) (infix_rule env at o) (value_at_typed env (place_of e) (tree env b e) (tree_typed e env w l.0 b)) (value_at_typed env (place_of f) (tree env (after b e) f) (tree_typed f env w l.1 (after b e))) (λ g h k m. infix_typed env at o g h k m)

@@ -23,8 +23,10 @@ use Rattle.c_rules.specs.BinaryExpressions.{sum_of, sum, minus_of, balanced_of, 
 use Rattle.c_rules.specs.Assignments.{assignable, assignment, operator_of_assignment, moves, update_of, assignment_by, one_for, step, last_type, comma_of}
 use Rattle.c_rules_laws.specs.MadeTypes.{NotArray, Made, AllMade, FewCells, IsSized}
 use Rattle.c_rules_laws.specs.SoundStructs.{AreSound}
-use Rattle.c_rules_laws.proofs.Holding.{Holds, demand_holds, behind_demand, after_part, if_holds, either}
+use Rattle.c_rules_laws.proofs.Holding.{Holds, holds_map, demand_holds, behind_demand, either}
 use Rattle.c_rules_laws.proofs.MadeTypes.{result_not_array, few_unless_array}
+pub use Rattle.c_rules_laws.proofs.Operators.{kind_pointer}
+use Rattle.c_rules_laws.proofs.Operators.{IsMember, a_member, IsAddress, of_place, of_leader, IsLedTo, led, OfOne, leads, promotes, operates, negates, ArePointers, as_given, left_null, right_null, OfTwo, adds_right, adds_left, takes, OfChoice, integers_chosen, pointers_chosen, voids_chosen, OfUpdate, assigns, member_agrees, address_agrees, indirection_agrees, unary_agrees, operation_agrees, choice_agrees, assignment_agrees, step_agrees}
 
 module _ (structs : Structs) where
   -- a type that a value has
@@ -61,14 +63,6 @@ module _ (structs : Structs) where
   scalar_result t h = absurd h
 
 -- ## Conversions
-
-pub kind_pointer : (u t : CType) → kind_of u ≡ a_pointer t → u ≡ pointer t
-kind_pointer (pointer u) t e = (let f : a_pointer u ≡ a_pointer t = e in cc)
-kind_pointer u t e = absurd (cc)
-
-pub kind_integer : (u : CType) (i : IntType) → kind_of u ≡ an_integer i → u ≡ integer i
-kind_integer (integer j) i e = (let f : an_integer j ≡ an_integer i = e in cc)
-kind_integer u i e = absurd (cc)
 
 pub loaded_type : (g : TypedExpression) (f : Form) → (loaded g f).ctype ≡ g.ctype
 loaded_type g (a_value e) = refl
@@ -111,41 +105,28 @@ module _ (structs : Structs) where
 
   -- ## Unary operators
 
-  address_form_typed : (at : ℕ) (g : TypedExpression) (f : Form) → NotArray g.ctype → Made structs g.ctype → Holds (TypedExpressionSized structs) (address_of_form at g f)
-  address_form_typed at g (a_value e) n h = tt
-  address_form_typed at g (a_place e) n h = demand_holds (TypedExpressionSized structs) (few_parts (pointer g.ctype)) 13 at _ (λ _. record { made = (n, h); few = tt })
-  address_form_typed at g (behind p) n h = record { made = (n, h); few = tt }
-
-  address_type_typed : (at : ℕ) (g : TypedExpression) (t : CType) → g.ctype ≡ t → Made structs g.ctype → Holds (TypedExpressionSized structs) (address_of_type at g t)
-  address_type_typed at g (array t n) e h = tt
-  address_type_typed at g t e h = address_form_typed at g g.form (subst NotArray (sym e) tt) h
+  address_of_typed : (g h : TypedExpression) → IsAddress g h → Made structs g.ctype → TypedExpressionSized structs h
+  address_of_typed g h (of_place e f n) m = record { made = (n, m); few = tt }
+  address_of_typed g h (of_leader q f n) m = record { made = (n, m); few = tt }
 
   pub address_typed : (at place : ℕ) (g : TypedExpression) → TypedExpressionSized structs g → Holds (TypedExpressionSized structs) (address at place g)
-  address_typed at place g h = behind_demand (TypedExpressionSized structs) (is_place g || is_function g.ctype) 4 place _ (λ _. address_type_typed at g g.ctype refl h.made)
+  address_typed at place g h = holds_map (IsAddress g) (TypedExpressionSized structs) (λ x k. address_of_typed g x k h.made) (address at place g) (address_agrees at at g place place).has
 
-  led_typed : (at : ℕ) (g : TypedExpression) (t : CType) → Made structs t → Holds (TypedExpressionSized structs) (led_to at g t)
-  led_typed at g (pointer void) h = tt
-  led_typed at g (pointer (array t k)) h = absurd h.0
-  led_typed at g (pointer t) h = record { made = h.1; few = tt }
-  led_typed at g t h = tt
+  pointed_typed : (u t : CType) → u ≡ pointer t → Made structs u → IsSized structs t
+  pointed_typed u t e m = (let n : NotArray t × Made structs t = subst (Made structs) e m in record { made = n.1; few = few_unless_array structs t n.0 })
+
+  led_typed : (g h : TypedExpression) → IsLedTo g h → Made structs g.ctype → TypedExpressionSized structs h
+  led_typed g h (led t e n) m = pointed_typed g.ctype t e m
 
   pub indirection_typed : (at : ℕ) (g : TypedExpression) → Made structs g.ctype → Holds (TypedExpressionSized structs) (indirection at g)
-  indirection_typed at g h = led_typed at g g.ctype h
+  indirection_typed at g h = holds_map (IsLedTo g) (TypedExpressionSized structs) (λ x k. led_typed g x k h) (indirection at g) (indirection_agrees at at g).has
 
-  plus_typed : (at : ℕ) (g : TypedExpression) (k : Kind) → Holds (TypedExpressionSized structs) (plus_of at g k)
-  plus_typed at g (an_integer i) = sized_int structs (promoted i)
-  plus_typed at g k = tt
-
-  operator_typed : (at : ℕ) (o : UnOp) (g : TypedExpression) (k : Kind) → Holds (TypedExpressionSized structs) (operator_of at o g k)
-  operator_typed at o g (an_integer i) = sized_int structs (promoted i)
-  operator_typed at o g k = tt
+  one_typed : (g h : TypedExpression) → OfOne g h → Made structs g.ctype → TypedExpressionSized structs h
+  one_typed g h (leads x k) m = led_typed g x k m
+  one_typed g h k m = sized_int structs _
 
   pub unary_typed : (at o : ℕ) (g : TypedExpression) → TypedExpressionTyped structs g → Holds (TypedExpressionSized structs) (unary_of_value at o g)
-  unary_typed at o g h =
-      if_holds (TypedExpressionSized structs) (nat_eq o ASTERISK) _ _ (indirection_typed at g h.made)
-      (if_holds (TypedExpressionSized structs) (nat_eq o PLUS) _ _ (plus_typed at g (kind_of g.ctype))
-      (if_holds (TypedExpressionSized structs) (nat_eq o MINUS) _ _ (operator_typed at _ g (kind_of g.ctype))
-      (if_holds (TypedExpressionSized structs) (nat_eq o TILDE) _ _ (operator_typed at _ g (kind_of g.ctype)) (demand_holds (TypedExpressionSized structs) (is_scalar g.ctype) 3 at _ (λ _. sized_int structs _)))))
+  unary_typed at o g h = holds_map (OfOne g) (TypedExpressionSized structs) (λ x k. one_typed g x k h.made) (unary_of_value at o g) (unary_agrees at at g o).has
 
   pub cast_typed : (at : ℕ) (t : CType) (g : TypedExpression) → Holds (TypedExpressionSized structs) (cast_of at t g)
   cast_typed at void g = record { made = tt; few = tt }
@@ -160,51 +141,14 @@ module _ (structs : Structs) where
   pub moved_typed : (u t : CType) → u ≡ pointer t → Made structs u → IsSized structs (pointer t)
   moved_typed u t e h = record { made = subst (Made structs) e h; few = tt }
 
-  sum_of_typed : (env : Env) (at : ℕ) (a b : TypedExpression) (k l : Kind) → kind_of a.ctype ≡ k → kind_of b.ctype ≡ l → TypedExpressionTyped structs a → TypedExpressionTyped structs b → Holds (TypedExpressionSized structs) (sum_of env at a b k l)
-  sum_of_typed env at a b (an_integer i) (an_integer j) e f g h = sized_int structs (common i j)
-  sum_of_typed env at a b (a_pointer t) (an_integer j) e f g h = after_part (TypedExpressionSized structs) (complete env at t) _ (λ _. moved_typed a.ctype t (kind_pointer a.ctype t e) g.made)
-  sum_of_typed env at a b (an_integer i) (a_pointer t) e f g h = after_part (TypedExpressionSized structs) (complete env at t) _ (λ _. moved_typed b.ctype t (kind_pointer b.ctype t f) h.made)
-  sum_of_typed env at a b k l e f g h = tt
-
-  pub sum_typed : (env : Env) (at : ℕ) (a b : TypedExpression) → TypedExpressionTyped structs a → TypedExpressionTyped structs b → Holds (TypedExpressionSized structs) (sum env at a b)
-  sum_typed env at a b g h = sum_of_typed env at a b (kind_of a.ctype) (kind_of b.ctype) refl refl g h
-
-  minus_typed : (env : Env) (at : ℕ) (a b : TypedExpression) (k l : Kind) → kind_of a.ctype ≡ k → TypedExpressionTyped structs a → Holds (TypedExpressionSized structs) (minus_of env at a b k l)
-  minus_typed env at a b (an_integer i) (an_integer j) e g = sized_int structs (common i j)
-  minus_typed env at a b (a_pointer t) (an_integer j) e g = after_part (TypedExpressionSized structs) (complete env at t) _ (λ _. moved_typed a.ctype t (kind_pointer a.ctype t e) g.made)
-  minus_typed env at a b (a_pointer t) (a_pointer u) e g = behind_demand (TypedExpressionSized structs) (same_type t u) 3 at _ (λ _. after_part (TypedExpressionSized structs) (complete env at t) _ (λ _. sized_int structs _))
-  minus_typed env at a b k l e g = tt
-
-  balanced_typed : (at : ℕ) (o : BinOp) (a b : TypedExpression) (k l : Kind) → Holds (TypedExpressionSized structs) (balanced_of at o a b k l)
-  balanced_typed at o a b (an_integer i) (an_integer j) = sized_int structs (common i j)
-  balanced_typed at o a b k l = tt
-
-  shift_typed : (at : ℕ) (o : BinOp) (a b : TypedExpression) (k l : Kind) → Holds (TypedExpressionSized structs) (shift_of at o a b k l)
-  shift_typed at o a b (an_integer i) (an_integer j) = sized_int structs (promoted i)
-  shift_typed at o a b k l = tt
-
-  ordered_typed : (env : Env) (at : ℕ) (o : BinOp) (a b : TypedExpression) (k l : Kind) → Holds (TypedExpressionSized structs) (ordered_of env at o a b k l)
-  ordered_typed env at o a b (an_integer i) (an_integer j) = sized_int structs _
-  ordered_typed env at o a b (a_pointer t) (a_pointer u) = behind_demand (TypedExpressionSized structs) (same_type t u) 3 at _ (λ _. after_part (TypedExpressionSized structs) (complete env at t) _ (λ _. sized_int structs _))
-  ordered_typed env at o a b k l = tt
-
-  equality_typed : (at : ℕ) (o : BinOp) (a b : TypedExpression) (x : Alike) → Holds (TypedExpressionSized structs) (equality_of at o a b x)
-  equality_typed at o a b unlike = tt
-  equality_typed at o a b x = sized_int structs _
-
-  arithmetic_typed : (env : Env) (at : ℕ) (o : BinOp) (a b : TypedExpression) → TypedExpressionTyped structs a → TypedExpressionTyped structs b → Holds (TypedExpressionSized structs) (arithmetic_of env at o a b)
-  arithmetic_typed env at op.Add a b g h = sum_typed env at a b g h
-  arithmetic_typed env at op.Sub a b g h = minus_typed env at a b (kind_of a.ctype) (kind_of b.ctype) refl g
-  arithmetic_typed env at o a b g h = balanced_typed at _ a b (kind_of a.ctype) (kind_of b.ctype)
-
-  operation_of_typed : (env : Env) (at : ℕ) (o : BinOp) (a b : TypedExpression) (k : OperatorKind) → TypedExpressionTyped structs a → TypedExpressionTyped structs b → Holds (TypedExpressionSized structs) (operation_of env at o a b k)
-  operation_of_typed env at o a b balanced g h = arithmetic_typed env at o a b g h
-  operation_of_typed env at o a b shift g h = shift_typed at o a b (kind_of a.ctype) (kind_of b.ctype)
-  operation_of_typed env at o a b ordering g h = ordered_typed env at o a b (kind_of a.ctype) (kind_of b.ctype)
-  operation_of_typed env at o a b equality g h = equality_typed at o a b (alike a b)
+  two_typed : (env : Env) (at : ℕ) (a b g : TypedExpression) → OfTwo env at a b g → TypedExpressionTyped structs a → TypedExpressionTyped structs b → TypedExpressionSized structs g
+  two_typed env at a b g (adds_right t e i c) h k = moved_typed a.ctype t e h.made
+  two_typed env at a b g (adds_left t e i c) h k = moved_typed b.ctype t e k.made
+  two_typed env at a b g (takes t e i c) h k = moved_typed a.ctype t e h.made
+  two_typed env at a b g x h k = sized_int structs _
 
   pub operation_typed : (env : Env) (at : ℕ) (o : BinOp) (a b : TypedExpression) → TypedExpressionTyped structs a → TypedExpressionTyped structs b → Holds (TypedExpressionSized structs) (operation env at o a b)
-  operation_typed env at o a b g h = operation_of_typed env at o a b (kind_of_operator o) g h
+  operation_typed env at o a b h k = holds_map (OfTwo env at a b) (TypedExpressionSized structs) (λ g x. two_typed env at a b g x h k) (operation env at o a b) (operation_agrees env at at a b o).has
 
   pub conjunction_typed : (at : ℕ) (a b : TypedExpression) → Holds (TypedExpressionSized structs) (conjunction at a b)
   conjunction_typed at a b = demand_holds (TypedExpressionSized structs) (both_scalars a b) 3 at _ (λ _. sized_int structs _)
@@ -212,51 +156,32 @@ module _ (structs : Structs) where
   pub disjunction_typed : (at : ℕ) (a b : TypedExpression) → Holds (TypedExpressionSized structs) (disjunction at a b)
   disjunction_typed at a b = demand_holds (TypedExpressionSized structs) (both_scalars a b) 3 at _ (λ _. sized_int structs _)
 
-  -- operands that are made alike
-  abbrev AlikeTyped : Alike → Type 0
-  AlikeTyped (alike_integers i) = Unit {0}
-  AlikeTyped (alike_pointers x y) = IsValueType structs x.ctype
-  AlikeTyped unlike = Unit {0}
+  pointers_typed : (a b x y : TypedExpression) → ArePointers a b x y → TypedExpressionTyped structs a → TypedExpressionTyped structs b → IsValueType structs x.ctype
+  pointers_typed a b x y (left_null t e n) g h = h
+  pointers_typed a b x y p g h = g
 
-  pointers_typed : (a b : TypedExpression) → TypedExpressionTyped structs a → TypedExpressionTyped structs b → AlikeTyped (pointers_alike a b)
-  pointers_typed a b g h =
-      either AlikeTyped (same_type a.ctype b.ctype) (alike_pointers a b) _ (λ _. g)
-      (either AlikeTyped (is_null a) (alike_pointers (null_of b.ctype) b) _ (λ _. h)
-      (either AlikeTyped (is_null b) (alike_pointers a (null_of a.ctype)) unlike (λ _. g) tt))
-
-  alike_of_typed : (a b : TypedExpression) (k l : Kind) → TypedExpressionTyped structs a → TypedExpressionTyped structs b → AlikeTyped (alike_of a b k l)
-  alike_of_typed a b (a_pointer t) (a_pointer u) g h = pointers_typed a b g h
-  alike_of_typed a b (a_pointer t) (an_integer j) g h = either AlikeTyped (is_null b) (alike_pointers a (null_of a.ctype)) unlike (λ _. g) tt
-  alike_of_typed a b (an_integer i) (a_pointer u) g h = either AlikeTyped (is_null a) (alike_pointers (null_of b.ctype) b) unlike (λ _. h) tt
-  alike_of_typed a b k l g h = tt
-
-  arms_typed : (at : ℕ) (c a b : TypedExpression) (x : Alike) → AlikeTyped x → Holds (TypedExpressionSized structs) (arms_of at c a b x)
-  arms_typed at c a b (alike_integers i) h = sized_int structs i
-  arms_typed at c a b (alike_pointers x y) h = sized_value structs x.ctype h
-  arms_typed at c a b unlike h = demand_holds (TypedExpressionSized structs) (is_void a.ctype && is_void b.ctype) 3 at _ (λ _. record { made = tt; few = tt })
+  choice_of_typed : (c a b g : TypedExpression) → OfChoice c a b g → TypedExpressionTyped structs a → TypedExpressionTyped structs b → TypedExpressionSized structs g
+  choice_of_typed c a b g (integers_chosen i s j k) h l = sized_int structs i
+  choice_of_typed c a b g (pointers_chosen x y s p) h l = sized_value structs x.ctype (pointers_typed a b x y p h l)
+  choice_of_typed c a b g (voids_chosen s v) h l = record { made = tt; few = tt }
 
   pub choice_typed : (at : ℕ) (c a b : TypedExpression) → TypedExpressionTyped structs a → TypedExpressionTyped structs b → Holds (TypedExpressionSized structs) (choice at c a b)
-  choice_typed at c a b g h = behind_demand (TypedExpressionSized structs) (is_scalar c.ctype) 3 at _ (λ _. arms_typed at c a b (alike a b) (alike_of_typed a b (kind_of a.ctype) (kind_of b.ctype) g h))
+  choice_typed at c a b h k = holds_map (OfChoice c a b) (TypedExpressionSized structs) (λ g x. choice_of_typed c a b g x h k) (choice at c a b) (choice_agrees at at c a b).has
 
   -- ## Assignments
 
   pub assignable_typed : (at : ℕ) (g : TypedExpression) → TypedExpressionSized structs g → Holds (TypedExpressionSized structs) (assignable at g)
   assignable_typed at g h = demand_holds (TypedExpressionSized structs) (is_place g) 4 at g (λ _. h)
 
-  assignment_typed : (at : ℕ) (p v : TypedExpression) → TypedExpressionSized structs p → Holds (TypedExpressionSized structs) (assignment at p v)
-  assignment_typed at p v h = demand_holds (TypedExpressionSized structs) (fits p.ctype v) 3 at _ (λ _. h)
-
-  update_typed : (env : Env) (at : ℕ) (o : BinOp) (old : Bool) (p v : TypedExpression) (k l : Kind) → TypedExpressionSized structs p → Holds (TypedExpressionSized structs) (update_of env at o old p v k l)
-  update_typed env at o old p v (an_integer i) (an_integer j) h = h
-  update_typed env at o old p v (a_pointer t) (an_integer j) h = behind_demand (TypedExpressionSized structs) (moves o) 3 at _ (λ _. after_part (TypedExpressionSized structs) (complete env at t) _ (λ _. h))
-  update_typed env at o old p v k l h = tt
+  update_typed : (env : Env) (at : ℕ) (o : BinOp) (a b g : TypedExpression) → OfUpdate env at o a b g → TypedExpressionSized structs a → TypedExpressionSized structs g
+  update_typed env at o a b g (assigns f) h = h
+  update_typed env at o a b g u h = h
 
   pub assignment_by_typed : (env : Env) (at o : ℕ) (p v : TypedExpression) → TypedExpressionSized structs p → Holds (TypedExpressionSized structs) (assignment_by env at o p v)
-  assignment_by_typed env at o p v h =
-      if_holds (TypedExpressionSized structs) (nat_eq o ASSIGN) _ _ (assignment_typed at p v h) (update_typed env at (operator_of_assignment o) false p v (kind_of p.ctype) (kind_of v.ctype) h)
+  assignment_by_typed env at o p v h = holds_map (OfUpdate env at (operator_of_assignment o) p v) (TypedExpressionSized structs) (λ g u. update_typed env at (operator_of_assignment o) p v g u h) (assignment_by env at o p v) (assignment_agrees env at at o p v).has
 
   pub step_typed : (env : Env) (at : ℕ) (o : BinOp) (old : Bool) (p : TypedExpression) → TypedExpressionSized structs p → Holds (TypedExpressionSized structs) (step env at o old p)
-  step_typed env at o old p h = update_typed env at o old p (one_for (kind_of p.ctype)) (kind_of p.ctype) (kind_of (one_for (kind_of p.ctype)).ctype) h
+  step_typed env at o old p h = holds_map (OfUpdate env at o p (one_for (kind_of p.ctype))) (TypedExpressionSized structs) (λ g u. update_typed env at o p (one_for (kind_of p.ctype)) g u h) (step env at o old p) (step_agrees env at at o old p).has
 
   last_typed : (t : CType) (gs : List TypedExpression) → IsValueType structs t → TypedExpressionsTyped structs gs → IsValueType structs (last_type t gs)
   last_typed t [] h k = h
@@ -292,21 +217,12 @@ module _ (env : Env) (sound : AreSound (layout_of env)) where
       by_entry None f = absurd (let g : incomplete ≡ defined_struct ms = f in cc)
       by_entry (Some x) f = ap (λ y. Some (types_of_struct y)) f
 
-  member_or_typed : (at s : ℕ) (ms : List Member) (g : TypedExpression) (o : Option ℕ) → struct_of env s ≡ defined_struct ms → Holds (TypedExpressionSized (layout_of env)) (member_or_undeclared env at ms g o)
-  member_or_typed at s ms g None e = tt
-  member_or_typed at s ms g (Some k) e =
-      let d = defined_at s ms e in
+  member_got : (x : Name) (g h : TypedExpression) → IsMember env x g h → TypedExpressionSized (layout_of env) h
+  member_got x g h (a_member s ms k e q n) =
+      let d = defined_at s ms q in
       let c = cells_got (layout_of env) (map type_of_member ms) k in
       let f = sound.few s (map type_of_member ms) d in
       sized_few (layout_of env) (get_or (map type_of_member ms) k void) (all_got (Made (layout_of env)) (map type_of_member ms) k void (sound.made s (map type_of_member ms) d) tt) (omega (arith, c, f))
 
-  member_struct_typed : (at s : ℕ) (x : Name) (g : TypedExpression) (m : Struct) → struct_of env s ≡ m → Holds (TypedExpressionSized (layout_of env)) (member_of_struct env at x g m)
-  member_struct_typed at s x g (defined_struct ms) e = member_or_typed at s ms g (number_among (map name_of_member ms) x) e
-  member_struct_typed at s x g m e = tt
-
-  member_type_typed : (at : ℕ) (x : Name) (g : TypedExpression) (t : CType) → Holds (TypedExpressionSized (layout_of env)) (member_of_type env at x g t)
-  member_type_typed at x g (struct s) = member_struct_typed at s x g (struct_of env s) refl
-  member_type_typed at x g t = tt
-
   pub member_typed : (at : ℕ) (x : Name) (g : TypedExpression) → Holds (TypedExpressionSized (layout_of env)) (member_of env at x g)
-  member_typed at x g = member_type_typed at x g g.ctype
+  member_typed at x g = holds_map (IsMember env x g) (TypedExpressionSized (layout_of env)) (λ h k. member_got x g h k) (member_of env at x g) (member_agrees env at at x g).has
