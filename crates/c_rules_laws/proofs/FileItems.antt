@@ -96,7 +96,7 @@ module _ (env : Env) (defined : Bool) (x : Ident) where
 
 -- what stands before a declaration at file scope
 module _ (env : Env) (w : IsFileRight env) (x : Name) where
-  here_is : (b : Binding) → lookup env.names x ≡ Some b → declared_here env x ≡ Some b.means
+  pub here_is : (b : Binding) → lookup env.names x ≡ Some b → declared_here env x ≡ Some b.means
   here_is b e =
       let d : b.depth ≡ env.depth = w.shallow_names x b e ∙ sym w.shallow in
       ap (at_depth env.depth) e ∙ ap (λ t. if t then Some b.means else None) (ap (λ k. nat_eq k env.depth) d ∙ nat_eq_equiv.refl env.depth)
@@ -303,12 +303,12 @@ parts_step (more_parts d m ps) env b at class s p w e =
     step_on env inner (behind_file_parts inner after at class s ps) h (parts_step ps inner after at class s f.1 h.0 f.3)
 
 pub definition_step : (env : Env) (b : Before) (at : ℕ) (s : Spec) (d : Declarator) (body : Stmt) (o : Option Ident) (p : Output) (k : Bool) → declares_function d ≡ k → IsFileRight env → function_named env b at s d body k o ≡ fine p → Step env (behind_function_named env at s d o)
-definition_step env b at s d body o p false q w e = absurd (cc)
-definition_step env b at s d body None p true q w e = absurd (cc)
 definition_step env b at s d body (Some x) p true q w e =
     let r : Checked Meaning = function_declared env true at s d x in
     let f = first_fine r (on (type_declared env at s d) (defined_as (behind_defined env at s d x) b (place_or at d) d x (items_of_body body))) (λ _ f. fine (output_of_function f)) p e in
     function_step env true x r f.0 w f.2 (held (IsFunctionDeclared env true x) r f.0 (function_declared_right env true x at s d q) f.2)
+definition_step env b at s d body o p false q w e = absurd (cc)
+definition_step env b at s d body None p true q w e = absurd (cc)
 
 pub form_step : (i : Item) (env : Env) (b : Before) (p : Output) → IsFileRight env → IsItemLexical i → item env b i ≡ fine p → Step env (behind_by_form env b i)
 form_step (struct_item at x ms) env b p w l e = (let f = on_fine (struct_definition env x ms) (λ _. fine no_output) p e in struct_step env x ms f.0 w l f.1)

@@ -27,7 +27,7 @@ use Rattle.c_rules_laws.proofs.Holding.{Holds, on_holds, both_hold, Any, anythin
 use Rattle.c_rules_laws.proofs.MadeTypes.{complete_known, complete_kept, made_kept}
 use Rattle.c_rules_laws.proofs.SoundStructs.{grows_same, grows_on, same_flat, set_grows, set_sound}
 use Rattle.c_rules_laws.proofs.TypesOfExpressions.{type_declared_made}
-use Rattle.c_rules_laws.proofs.RightDeclarations.{size_right}
+use Rattle.c_rules_laws.proofs.RightDeclarations.{size_right, by_name}
 use Rattle.c_rules.proofs.FileScopeLemmas.{within_or}
 
 -- ## Structs
@@ -137,10 +137,9 @@ meaning_kept old new s g m h = tt
 -- what a name means at file scope
 abbrev pub FileMeaning : Env → Name → Meaning → Type 0
 FileMeaning env x (a_static seen whole d) = (seen ≡ whole) × IsComplete (layout_of env) whole × (cells (layout_of env) whole ≤ 65536)
-FileMeaning env x (a_local n seen whole) = ⊥
 FileMeaning env x (a_function t d) = IsThing t × ((i : ℕ) → number_among (given_names env.whole.mode) x ≡ Some i → (slice_get (given_types env.whole.mode) i ≡ Some t) × (d ≡ false))
 FileMeaning env x (an_enumerator z) = IsConstant int (v.Int z)
-FileMeaning env x (unknown f fs) = ⊥
+FileMeaning env x a = ⊥
 
 pub record IsFileRight (env : Env) : Type 0 where
   pub runs : env.context ≡ evaluated
@@ -188,10 +187,6 @@ follows_on a b c h k = record {
 }
 
 -- with a name declared anew
-by_name : (P : Binding → Type 0) (b : Bool) (new : Binding) (o : Option Binding) (found : Binding) → cond b (Some new) o ≡ Some found → (b ≡ true → P new) → (o ≡ Some found → P found) → P found
-by_name P true new o found e h k = subst P (let f : Some new ≡ Some found = e in cc) (h refl)
-by_name P false new o found e h k = k e
-
 later_name : (b : Bool) (new w : Binding) (o : Option Binding) → o ≡ Some w → (b ≡ true → Agrees w.means new.means) → (c : Binding) × (cond b (Some new) o ≡ Some c) × Agrees w.means c.means
 later_name true new w o e h = (new, refl, h refl)
 later_name false new w o e h = (w, e, agrees_self w.means)
@@ -204,10 +199,10 @@ file_named env x m w t f a = (
     shallow = w.shallow;
     names_known = record {
       sound = w.names_known.sound;
-      meanings = λ y b e. by_name (λ c. MeaningTyped (layout_of env) c.means) (bytes_eq x y) (record { name = x; depth = env.depth; means = m }) (lookup env.names y) b e (λ _. t) (w.names_known.meanings y b);
+      meanings = λ y b e. by_name (λ c. MeaningTyped (layout_of env) c.means) (bytes_eq x y) (record { name = x; depth = env.depth; means = m }) (lookup env.names y) b e (λ _. t) (w.names_known.meanings y);
     };
-    shallow_names = λ y b e. by_name (λ c. c.depth ≡ 0) (bytes_eq x y) (record { name = x; depth = env.depth; means = m }) (lookup env.names y) b e (λ _. w.shallow) (w.shallow_names y b);
-    meanings = λ y b e. by_name (λ c. FileMeaning env y c.means) (bytes_eq x y) (record { name = x; depth = env.depth; means = m }) (lookup env.names y) b e (λ q. f y ((bytes_eq-Decides x y).0 q)) (w.meanings y b);
+    shallow_names = λ y b e. by_name (λ c. c.depth ≡ 0) (bytes_eq x y) (record { name = x; depth = env.depth; means = m }) (lookup env.names y) b e (λ _. w.shallow) (w.shallow_names y);
+    meanings = λ y b e. by_name (λ c. FileMeaning env y c.means) (bytes_eq x y) (record { name = x; depth = env.depth; means = m }) (lookup env.names y) b e (λ q. f y ((bytes_eq-Decides x y).0 q)) (w.meanings y);
   },
   record {
     grows = grows_same (layout_of env);

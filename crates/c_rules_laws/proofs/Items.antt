@@ -13,7 +13,7 @@ use Rattle.c_rules.specs.Codes.{C2, C3, C6, C11, C12, C13, C14}
 use Rattle.c_rules.specs.Constants.{number_of}
 use Rattle.c_rules.specs.Limits.{most_cells, most_members, most_static_cells}
 use Rattle.c_rules.specs.Names.{Name, is_among, may_be_declared, given_names}
-use Rattle.c_rules.specs.Scopes.{Env, Meaning, a_static, an_enumerator, Struct, defined_struct, Member, type_of_member, declared_here, with_name, with_struct, struct_of, tag_number, layout_of, Before}
+use Rattle.c_rules.specs.Scopes.{Env, Meaning, a_static, an_enumerator, Struct, defined_struct, Member, type_of_member, declared_here, with_name, with_struct, struct_of, tag_number, layout_of, Before, meaning_or_unknown}
 use Rattle.c_rules.specs.Counts.{place_of}
 use Rattle.c_rules.specs.Conversions.{complete}
 use Rattle.c_rules.specs.Declarators.{name_of, place_or, constant_value}
@@ -166,7 +166,6 @@ enum_tag_same env (tag x) = refl
 
 pub defines_same : (class : Storage) (m : MaybeInit) → defines class (unplaced_maybe_init m) ≡ defines class m
 defines_same extern no_init = refl
-defines_same class no_init = refl
 defines_same class m = refl
 
 object_name_alike : (env : Env) (defined : Bool) (x : Ident) (t : CType) → Alike Met (object_name env defined x t) (object_name env defined (unplaced_ident x) t)
@@ -186,18 +185,12 @@ global_declared_alike : (env : Env) (defined : Bool) (b c : Before) → c ≡ b 
 global_declared_alike env defined b c h at to s d x m =
     on_alike (global_object env defined b x) (global_object env defined c (unplaced_ident x)) (declared_object_alike env at to s d x m) (λ o _. global_object_alike env defined b c h x o)
 
-given_fine : {A B : Type 0} (r : Checked A) (f : A → B) (a : A) → r ≡ fine a → gives r f ≡ fine (f a)
-given_fine r f a e = ap (λ y. gives y f) e
-
-behind_global_same : (env : Env) (defined : Bool) (x : Ident) (r s : Checked Object) (o : Object) → Alike Object r s → r ≡ fine o → behind_global env defined x r ≡ behind_global env defined (unplaced_ident x) s
-behind_global_same env defined x r s o h e =
-    let f : Object → Meaning = λ o. a_static o.whole o.whole (is_defined_by defined (declared_here env x.name)) in
-    ap (with_name env x.name) (meaning_same (gives r f) (gives s f) (f o) (gives_alike f h) (given_fine r f o e))
-
-within_global_same : (env : Env) (defined : Bool) (x : Ident) (r s : Checked Object) (o : Object) → Alike Object r s → r ≡ fine o → within_global env defined x r ≡ within_global env defined (unplaced_ident x) s
-within_global_same env defined x r s o h e =
-    let f : Object → Meaning = λ o. a_static o.seen o.whole (is_defined_by defined (declared_here env x.name)) in
-    ap (with_name env x.name) (meaning_same (gives r f) (gives s f) (f o) (gives_alike f h) (given_fine r f o e))
+-- behind an object that is fine, with any type of it
+meant_global_same : (env : Env) (seen : Object → CType) (defined : Bool) (x : Ident) (r s : Checked Object) (o : Object) → Alike Object r s → r ≡ fine o
+    → with_name env x.name (meaning_or_unknown (gives r (λ o. a_static (seen o) o.whole (is_defined_by defined (declared_here env x.name))))) ≡ with_name env x.name (meaning_or_unknown (gives s (λ o. a_static (seen o) o.whole (is_defined_by defined (declared_here env x.name)))))
+meant_global_same env seen defined x r s o h e =
+    let f : Object → Meaning = λ o. a_static (seen o) o.whole (is_defined_by defined (declared_here env x.name)) in
+    ap (with_name env x.name) (meaning_same (gives r f) (gives s f) (f o) (gives_alike f h) (ap (λ y. gives y f) e))
 
 definition_alike : (env : Env) (b c : Before) → c ≡ b → (m : MaybeInit) (o : Object) → Alike Output (definition_of env b m o) (definition_of env c (unplaced_maybe_init m) o)
 definition_alike env b c h m o = gives_alike (static_of o) (static_init_alike env (after_object env b o.whole) (after_object env c o.whole) (ap (λ y. after_object env y o.whole) h) o.whole m)
@@ -206,7 +199,7 @@ global_alike : (env : Env) (defined : Bool) (b c : Before) → c ≡ b → (x : 
 global_alike env false b c h x m r s g = gives_alike (λ _. no_output) g
 global_alike env true b c h x m r s g =
     on_alike (definition_of (within_global env true x r) b m) (definition_of (within_global env true (unplaced_ident x) s) c (unplaced_maybe_init m)) g
-    (λ o e. subst (λ y. Alike Output (definition_of (within_global env true x r) b m o) (definition_of y c (unplaced_maybe_init m) o)) (within_global_same env true x r s o g e) (definition_alike (within_global env true x r) b c h m o))
+    (λ o e. subst (λ y. Alike Output (definition_of (within_global env true x r) b m o) (definition_of y c (unplaced_maybe_init m) o)) (meant_global_same env (λ o. o.seen) true x r s o g e) (definition_alike (within_global env true x r) b c h m o))
 
 without_init_alike : (m : MaybeInit) → Alike Met (without_init m) (without_init (unplaced_maybe_init m))
 without_init_alike no_init = alike (fine met)
@@ -250,7 +243,7 @@ module _ (env : Env) (b c : Before) (h : c ≡ b) (at to : ℕ) (class : Storage
   behind_declared_same false x p e =
       let r : Checked Object = global_declared env (defines class m) b at s d x m in
       let f = global_fine env (defines class m) b x m r p e in
-      behind_global_same env (defines class m) x r (global_declared env (defines class m) c to spec' declarator' (unplaced_ident x) init') f.0 (global_declared_alike env (defines class m) b c h at to s d x m) f.1
+      meant_global_same env (λ o. o.whole) (defines class m) x r (global_declared env (defines class m) c to spec' declarator' (unplaced_ident x) init') f.0 (global_declared_alike env (defines class m) b c h at to s d x m) f.1
       ∙ ap (λ t. behind_global env t (unplaced_ident x) (global_declared env t c to spec' declarator' (unplaced_ident x) init')) (sym (defines_same class m))
 
   behind_option_same : (x : Option Ident) (p : Output) → named_part env b at class s d m x ≡ fine p → behind_named_part env b at class s d m x ≡ behind_named_part env c to class spec' declarator' init' (unplaced_name x)
@@ -350,14 +343,12 @@ module _ (env : Env) (b c : Before) (h : c ≡ b) (at to : ℕ) (s : Spec) (d : 
   held_option_same : (function : Bool) (x : Option Ident) (p : Output) → function_named env b at s d body function x ≡ fine p
       → held_by_typed (behind_function_named env to spec₁ declarator₁ (unplaced_name x)) declarator₁ (unplaced_block_items (items_of_body body)) (type_declared env to spec₁ declarator₁)
       ≡ held_by_typed (behind_function_named env at s d x) d (items_of_body body) (type_declared env at s d)
-  held_option_same false None p e = let no : function_named env b at s d body false None ≡ fine p = e in cc
-  held_option_same false (Some x) p e = let no : function_named env b at s d body false (Some x) ≡ fine p = e in cc
-  held_option_same true None p e = let no : function_named env b at s d body true None ≡ fine p = e in cc
   held_option_same true (Some x) p e =
       let made : Env = behind_defined env at s d x in
       let f = first_fine (function_declared env true at s d x) (on (type_declared env at s d) (defined_as made b (place_or at d) d x (items_of_body body))) (λ _ f. fine (output_of_function f)) p e in
       ap (λ y. held_by_typed y declarator₁ (unplaced_block_items (items_of_body body)) (type_declared env to spec₁ declarator₁)) (sym (behind_defined_same x f.0 f.2))
       ∙ held_typed_same (place_or at d) (place_or to declarator₁) made x (type_declared env at s d) (type_declared env to spec₁ declarator₁) f.1 (type_declared_alike env at to s d) f.3
+  held_option_same function x p e = let no : function_named env b at s d body function x ≡ fine p = e in cc
 
   pub after_function_same : (p : Output) → function_named env b at s d body (declares_function d) (name_of d) ≡ fine p → after_function env c to spec₁ declarator₁ (unplaced_stmt body) ≡ after_function env b at s d body
   after_function_same p e =

@@ -21,36 +21,34 @@ use Rattle.c_rules.specs.Objects.{object_of, object_declared}
 use Rattle.c_rules.specs.Expressions.{value_at, place_at, callee, access, after_operand, before_operand, unary_rule, infix_rule, tree, trees, type_named, declared, size_in, parameters, value, type_declared}
 use Rattle.c_rules_laws.specs.TypedAlike.{AreUnreserved, MeanAlike, More, TypedAlike, beside}
 use Rattle.c_rules_laws.specs.EnvironmentLaws.{PartsGiveTheSame}
-use Rattle.c_rules_laws.proofs.Leads.{Leads, same_leads, fine_leads, on_leads, both_leads, gives_leads, all_three_lead, first_fine}
+use Rattle.c_rules_laws.proofs.Leads.{Leads, same_leads, fine_leads, on_leads, then_leads, both_leads, gives_leads, all_three_lead, first_fine}
 use Rattle.c_rules_laws.proofs.Names.{left, right, named_leads, site_leads, named_callee_leads, value_at_leads, new_name_leads, new_name_plain, named_beside}
 use Rattle.c_rules.proofs.ModeExpressions.{place_at_leads, unary_by, cast_leads}
 
 callee_leads : (env : Env) (w : More) → AreUnreserved env.names → MeanAlike env.names w.names → (at : ℕ) (b : Before) (d : Expr) → Leads (value_at (left env) (place_of d) (tree (left env) b d)) (value_at (right env w) (place_of d) (tree (right env w) b d))
     → Leads (callee (left env) at d (value_at (left env) (place_of d) (tree (left env) b d))) (callee (right env w) at d (value_at (right env w) (place_of d) (tree (right env w) b d)))
 callee_leads env w p m at b (a_name place x) h = named_callee_leads env w p m at place x
-callee_leads env w p m at b d h = on_leads (value_at (left env) (place_of d) (tree (left env) b d)) (value_at (right env w) (place_of d) (tree (right env w) b d)) (callee_by_value at) (callee_by_value at) h (λ g _. same_leads (callee_by_value at g))
+callee_leads env w p m at b d h = then_leads (value_at (left env) (place_of d) (tree (left env) b d)) (value_at (right env w) (place_of d) (tree (right env w) b d)) (callee_by_value at) h
 
 access_leads : (env : Env) (w : More) (at place : ℕ) (how : Access) (x : Name) (r s : Checked TypedExpression) → Leads r s → Leads (access (left env) at place how x r) (access (right env w) at place how x s)
-access_leads env w at place dot x r s h = on_leads r s (member_of (left env) at x) (member_of (right env w) at x) h (λ g _. same_leads (member_of (left env) at x g))
+access_leads env w at place dot x r s h = then_leads r s (member_of (left env) at x) h
 access_leads env w at place arrow x r s h =
-    on_leads (on (value_at (left env) place r) (indirection at)) (on (value_at (right env w) place s) (indirection at)) (member_of (left env) at x) (member_of (right env w) at x)
-    (on_leads (value_at (left env) place r) (value_at (right env w) place s) (indirection at) (indirection at) (value_at_leads env w place r s h) (λ g _. same_leads (indirection at g)))
-    (λ g _. same_leads (member_of (left env) at x g))
+    then_leads (on (value_at (left env) place r) (indirection at)) (on (value_at (right env w) place s) (indirection at)) (member_of (left env) at x) (then_leads (value_at (left env) place r) (value_at (right env w) place s) (indirection at) (value_at_leads env w place r s h))
 
 after_operand_leads : (env : Env) (w : More) (at place : ℕ) (op : Postfix) (r s : Checked TypedExpression) → Leads r s → Leads (after_operand (left env) at place op r) (after_operand (right env w) at place op s)
-after_operand_leads env w at place post_increment r s h = on_leads (place_at place r) (place_at place s) (step (left env) at Add true) (step (right env w) at Add true) (place_at_leads place r s h) (λ g _. same_leads (step (left env) at Add true g))
-after_operand_leads env w at place post_decrement r s h = on_leads (place_at place r) (place_at place s) (step (left env) at Sub true) (step (right env w) at Sub true) (place_at_leads place r s h) (λ g _. same_leads (step (left env) at Sub true g))
+after_operand_leads env w at place post_increment r s h = then_leads (place_at place r) (place_at place s) (step (left env) at Add true) (place_at_leads place r s h)
+after_operand_leads env w at place post_decrement r s h = then_leads (place_at place r) (place_at place s) (step (left env) at Sub true) (place_at_leads place r s h)
 
 before_operand_leads : (env : Env) (w : More) (at place : ℕ) (op : Prefix) (r s q t : Checked TypedExpression) → Leads r s → Leads q t → Leads (before_operand (left env) at place op r q) (before_operand (right env w) at place op s t)
-before_operand_leads env w at place pre_increment r s q t h k = on_leads (place_at place r) (place_at place s) (step (left env) at Add false) (step (right env w) at Add false) (place_at_leads place r s h) (λ g _. same_leads (step (left env) at Add false g))
-before_operand_leads env w at place pre_decrement r s q t h k = on_leads (place_at place r) (place_at place s) (step (left env) at Sub false) (step (right env w) at Sub false) (place_at_leads place r s h) (λ g _. same_leads (step (left env) at Sub false g))
-before_operand_leads env w at place sizeof r s q t h k = on_leads q t (size_of_expression (left env) at) (size_of_expression (right env w) at) k (λ g _. same_leads (size_of_expression (left env) at g))
+before_operand_leads env w at place pre_increment r s q t h k = then_leads (place_at place r) (place_at place s) (step (left env) at Add false) (place_at_leads place r s h)
+before_operand_leads env w at place pre_decrement r s q t h k = then_leads (place_at place r) (place_at place s) (step (left env) at Sub false) (place_at_leads place r s h)
+before_operand_leads env w at place sizeof r s q t h k = then_leads q t (size_of_expression (left env) at) k
 
 unary_leads : (env : Env) (w : More) (at place op : ℕ) (r s : Checked TypedExpression) → Leads r s → Leads (unary_rule (left env) at place op r) (unary_rule (right env w) at place op s)
 unary_leads env w at place op r s h =
     unary_by (nat_eq op AMPERSAND) (on r (address at place)) (on s (address at place)) (on (value_at (left env) place r) (unary_of_value at op)) (on (value_at (right env w) place s) (unary_of_value at op))
-    (on_leads r s (address at place) (address at place) h (λ g _. same_leads (address at place g)))
-    (on_leads (value_at (left env) place r) (value_at (right env w) place s) (unary_of_value at op) (unary_of_value at op) (value_at_leads env w place r s h) (λ g _. same_leads (unary_of_value at op g)))
+    (then_leads r s (address at place) h)
+    (then_leads (value_at (left env) place r) (value_at (right env w) place s) (unary_of_value at op) (value_at_leads env w place r s h))
 
 infix_leads : (env : Env) (w : More) (at : ℕ) (op : Infix) (a b : TypedExpression) → Leads (infix_rule (left env) at op a b) (infix_rule (right env w) at op a b)
 infix_leads env w at and a b = same_leads (infix_rule (left env) at and a b)
@@ -75,7 +73,7 @@ mutual
   tree_leads e f (beside env w p m) b (a_str at text) = same_leads (string_expression (left env) b at text)
   tree_leads e f (beside env w p m) b (comma at es) = gives_leads (trees (left env) b es) (trees (right env w) b es) comma_of (trees_lead _ _ (beside env w p m) b es)
   tree_leads e f (beside env w p m) b (sizeof_type at t) =
-      on_leads (type_named (left env) t) (type_named (right env w) t) (size_of_type (left env) at (place_of_type t)) (size_of_type (right env w) at (place_of_type t)) (type_named_leads _ _ (beside env w p m) t) (λ u _. same_leads (size_of_type (left env) at (place_of_type t) u))
+      then_leads (type_named (left env) t) (type_named (right env w) t) (size_of_type (left env) at (place_of_type t)) (type_named_leads _ _ (beside env w p m) t)
   tree_leads e f (beside env w p m) b (cast at t x) =
       cast_leads (is_void_pointer t) at (type_named (left env) t) (type_named (right env w) t) (value_at (left env) (place_of x) (tree (left env) b x)) (value_at (right env w) (place_of x) (tree (right env w) b x)) (type_named_leads _ _ (beside env w p m) t) (value_at_leads env w (place_of x) _ _ (tree_leads _ _ (beside env w p m) b x))
   tree_leads e f (beside env w p m) b (call at d es) =
@@ -88,9 +86,8 @@ mutual
       before_operand_leads env w at (place_of x) op _ _ _ _ (tree_leads _ _ (beside env w p m) b x) (tree_leads _ _ (beside (in_context env sized) w p m) nothing_before x)
   tree_leads e f (beside env w p m) b (unary at op x) = unary_leads env w at (place_of x) op _ _ (tree_leads _ _ (beside env w p m) b x)
   tree_leads e f (beside env w p m) b (index at x y) =
-      on_leads (both (value_at (left env) (place_of x) (tree (left env) b x)) (value_at (left env) (place_of y) (tree (left env) (after b x) y)) (sum (left env) at)) (both (value_at (right env w) (place_of x) (tree (right env w) b x)) (value_at (right env w) (place_of y) (tree (right env w) (after b x) y)) (sum (right env w) at)) (indirection at) (indirection at)
+      then_leads (both (value_at (left env) (place_of x) (tree (left env) b x)) (value_at (left env) (place_of y) (tree (left env) (after b x) y)) (sum (left env) at)) (both (value_at (right env w) (place_of x) (tree (right env w) b x)) (value_at (right env w) (place_of y) (tree (right env w) (after b x) y)) (sum (right env w) at)) (indirection at)
       (both_leads _ _ _ _ (sum (left env) at) (sum (right env w) at) (value_at_leads env w (place_of x) _ _ (tree_leads _ _ (beside env w p m) b x)) (λ _ _. value_at_leads env w (place_of y) _ _ (tree_leads _ _ (beside env w p m) (after b x) y)) (λ g h. same_leads (sum (left env) at g h)))
-      (λ g _. same_leads (indirection at g))
   tree_leads e f (beside env w p m) b (binary at op x y) =
       both_leads (value_at (left env) (place_of x) (tree (left env) b x)) (value_at (right env w) (place_of x) (tree (right env w) b x)) (value_at (left env) (place_of y) (tree (left env) (after b x) y)) (value_at (right env w) (place_of y) (tree (right env w) (after b x) y)) (infix_rule (left env) at op) (infix_rule (right env w) at op)
       (value_at_leads env w (place_of x) _ _ (tree_leads _ _ (beside env w p m) b x)) (λ _ _. value_at_leads env w (place_of y) _ _ (tree_leads _ _ (beside env w p m) (after b x) y)) (λ g h. infix_leads env w at op g h)
@@ -116,24 +113,24 @@ mutual
   declared_leads e f (beside env w p m) (pointer at d) t = on_leads (pointer_to at t) (pointer_to at t) (λ u. declared (left env) d u) (λ u. declared (right env w) d u) (same_leads (pointer_to at t)) (λ u _. declared_leads _ _ (beside env w p m) d u)
   declared_leads e f (beside env w p m) (array at d size) t =
       on_leads (on (size_in (left env) size) (array_of (left env) at t)) (on (size_in (right env w) size) (array_of (right env w) at t)) (λ u. declared (left env) d u) (λ u. declared (right env w) d u)
-      (on_leads (size_in (left env) size) (size_in (right env w) size) (array_of (left env) at t) (array_of (right env w) at t) (size_leads _ _ (beside env w p m) size) (λ n _. same_leads (array_of (left env) at t n))) (λ u _. declared_leads _ _ (beside env w p m) d u)
+      (then_leads (size_in (left env) size) (size_in (right env w) size) (array_of (left env) at t) (size_leads _ _ (beside env w p m) size)) (λ u _. declared_leads _ _ (beside env w p m) d u)
   declared_leads e f (beside env w p m) (function at d ps) t =
       on_leads (on (parameters (inside (left env)) 0 ps) (function_of at t)) (on (parameters (inside (right env w)) 0 ps) (function_of at t)) (λ u. declared (left env) d u) (λ u. declared (right env w) d u)
-      (on_leads (parameters (inside (left env)) 0 ps) (parameters (inside (right env w)) 0 ps) (function_of at t) (function_of at t) (parameters_lead _ _ (beside (inside env) w p m) 0 ps) (λ ts _. same_leads (function_of at t ts))) (λ u _. declared_leads _ _ (beside env w p m) d u)
+      (then_leads (parameters (inside (left env)) 0 ps) (parameters (inside (right env w)) 0 ps) (function_of at t) (parameters_lead _ _ (beside (inside env) w p m) 0 ps)) (λ u _. declared_leads _ _ (beside env w p m) d u)
   declared_leads e f x d t = (refl, tt)
 
   pub size_leads : (e f : Env) → TypedAlike e f → (m : Maybe) → Leads (size_in e m) (size_in f m)
   size_leads e f (beside env w p m) absent = (refl, tt)
   size_leads e f (beside env w p m) (there x) =
-      on_leads (value_at (left (in_context env folded)) (place_of x) (tree (left (in_context env folded)) nothing_before x)) (value_at (right (in_context env folded) w) (place_of x) (tree (right (in_context env folded) w) nothing_before x)) (array_size (place_of x)) (array_size (place_of x))
-      (value_at_leads (in_context env folded) w (place_of x) _ _ (tree_leads _ _ (beside (in_context env folded) w p m) nothing_before x)) (λ g _. same_leads (array_size (place_of x) g))
+      then_leads (value_at (left (in_context env folded)) (place_of x) (tree (left (in_context env folded)) nothing_before x)) (value_at (right (in_context env folded) w) (place_of x) (tree (right (in_context env folded) w) nothing_before x)) (array_size (place_of x))
+      (value_at_leads (in_context env folded) w (place_of x) _ _ (tree_leads _ _ (beside (in_context env folded) w p m) nothing_before x))
 
   pub parameters_lead : (e f : Env) → TypedAlike e f → (k : ℕ) (ps : Params) → Leads (parameters e k ps) (parameters f k ps)
   parameters_lead e f (beside env w p m) k no_params = (refl, tt)
   parameters_lead e f (beside env w p m) k (more_params at s d ps) =
       let r : Checked CType = on (on (type_of_spec (left env) at s) (λ t. declared (left env) d t)) (parameter_of (place_or at d)) in
       let q : Checked CType = on (on (type_of_spec (right env w) at s) (λ t. declared (right env w) d t)) (parameter_of (place_or at d)) in
-      let h : Leads r q = on_leads (on (type_of_spec (left env) at s) (λ t. declared (left env) d t)) (on (type_of_spec (right env w) at s) (λ t. declared (right env w) d t)) (parameter_of (place_or at d)) (parameter_of (place_or at d)) (on_leads (type_of_spec (left env) at s) (type_of_spec (right env w) at s) (λ t. declared (left env) d t) (λ t. declared (right env w) d t) (same_leads (type_of_spec (left env) at s)) (λ t _. declared_leads _ _ (beside env w p m) d t)) (λ t _. same_leads (parameter_of (place_or at d) t)) in
+      let h : Leads r q = then_leads (on (type_of_spec (left env) at s) (λ t. declared (left env) d t)) (on (type_of_spec (right env w) at s) (λ t. declared (right env w) d t)) (parameter_of (place_or at d)) (on_leads (type_of_spec (left env) at s) (type_of_spec (right env w) at s) (λ t. declared (left env) d t) (λ t. declared (right env w) d t) (same_leads (type_of_spec (left env) at s)) (λ t _. declared_leads _ _ (beside env w p m) d t)) in
       both_leads (with_name_demands (left env) (name_of d) r) (with_name_demands (right env w) (name_of d) q) (parameters (behind_parameter (left env) k (name_of d) r) k ps) (parameters (behind_parameter (right env w) k (name_of d) q) k ps) (λ t ts. fine (more_types t ts)) (λ t ts. fine (more_types t ts))
       (with_name_leads env w m (name_of d) r q h) (λ t e. parameters_lead _ _ (behind_beside env w p m k (name_of d) r q t h e) k ps) (λ t ts. (refl, tt))
 
@@ -144,8 +141,7 @@ pub type_declared_leads : (e f : Env) → TypedAlike e f → (at : ℕ) (s : Spe
 type_declared_leads e f (beside env w p m) at s d = type_named_leads _ _ (beside env w p m) (type_name at s d)
 
 pub object_leads : (e f : Env) → TypedAlike e f → (at : ℕ) (s : Spec) (d : Declarator) (x : Ident) (i : MaybeInit) → Leads (object_declared e at s d x i) (object_declared f at s d x i)
-object_leads e f (beside env w p m) at s d x i =
-    on_leads (type_declared (left env) at s d) (type_declared (right env w) at s d) (object_of (left env) (place_or at d) x.at i) (object_of (right env w) (place_or at d) x.at i) (type_declared_leads _ _ (beside env w p m) at s d) (λ t _. same_leads (object_of (left env) (place_or at d) x.at i t))
+object_leads e f (beside env w p m) at s d x i = then_leads (type_declared (left env) at s d) (type_declared (right env w) at s d) (object_of (left env) (place_or at d) x.at i) (type_declared_leads _ _ (beside env w p m) at s d)
 
 -- what is fine gives the same
 pub parts_give_the_same : PartsGiveTheSame

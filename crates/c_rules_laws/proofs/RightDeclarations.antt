@@ -23,7 +23,7 @@ use Rattle.c_rules.specs.Expressions.{type_declared}
 use Rattle.c_rules.specs.Initialisers.{count_inits, text_of, calls_of_maybe_init, held_by, initialised_local, stores_from, text_fits}
 use Rattle.c_rules.specs.Objects.{Object, sized_by_one, sized_by_init, sized_by, with_size, of_known_size, object_of, object_declared}
 use Rattle.c_rules.specs.Variables.{name_or_empty, Next, number_in, past_name, past_names, names_of_parts, names_of_decl}
-use Rattle.c_rules.specs.Blocks.{behind_local, behind_named, behind_part, past_part, behind_parts, behind_decl, held_by_object, held_by_named, held_by_part, held_by_parts, held_by_decl, after_part, StatementTree, one_more, laid_variable, local_of, local, local_named, local_part, local_parts, local_decl, is_given}
+use Rattle.c_rules.specs.Blocks.{behind_local, behind_named, behind_part, past_part, behind_parts, behind_decl, held_by_object, held_by_named, held_by_part, held_by_parts, held_by_decl, after_part, StatementTree, one_more, laid_variable, local_of, local, local_named, local_part, local_parts, local_decl, is_given, joined}
 use Rattle.c_meaning_laws.proofs.Places.{get_left, get_right, lies_whole}
 use Rattle.c_rules_laws.specs.Lexical.{IsMaybeInitLexical, ArePartsLexical, IsDeclLexical}
 use Rattle.c_rules_laws.specs.MadeTypes.{NotArray, Made, IsSized}
@@ -35,7 +35,7 @@ use Rattle.c_rules_laws.proofs.TypesOfExpressions.{type_declared_made}
 use Rattle.c_rules_laws.proofs.RightTypedExpressions.{complete_thing, complete_in, cells_in}
 use Rattle.c_rules_laws.proofs.RightExpressions.{strings_first, strings_rest}
 use Rattle.c_rules_laws.proofs.RightInitialisers.{TypesAre, LocalRight, local_right, stores_right}
-use Rattle.c_rules_laws.proofs.SitesOfStatements.{held_by_named_same}
+use Rattle.c_rules_laws.proofs.SitesOfStatements.{held_by_named_same, named_keeps, decl_keeps}
 use Rattle.c_rules_laws.proofs.SoundStructs.{same_flat}
 
 -- ## Numbers of variables
@@ -124,6 +124,11 @@ pub holds_given : {A : Type 0} (Q : Type 0) (P : A → Type 0) (r : Checked A) �
 holds_given Q P (fine a) f = f
 holds_given Q P (faulty g gs) f = tt
 
+-- what a name means with another one declared
+pub by_name : (P : Binding → Type 0) (b : Bool) (new : Binding) (o : Option Binding) (found : Binding) → cond b (Some new) o ≡ Some found → (b ≡ true → P new) → ((c : Binding) → o ≡ Some c → P c) → P found
+by_name P true new o found e h k = subst P (let f : Some new ≡ Some found = e in cc) (h refl)
+by_name P false new o found e h k = k found e
+
 lies_first : (all xs ys : List CType) (k : ℕ) → Lies all k (xs ++ ys) → Lies all k xs
 lies_first all xs ys k h j t e = h j t (get_left xs ys j t e)
 
@@ -170,10 +175,6 @@ module _ (p : Program) (vars : List CType) where
 
   pub right_inside : (env : Env) → IsRight p vars env → IsRight p vars (inside env)
   right_inside env w = record { runs = w.runs; names_known = w.names_known; within = w.within; meanings = w.meanings }
-
-  by_name : (P : Binding → Type 0) (b : Bool) (new : Binding) (o : Option Binding) (found : Binding) → cond b (Some new) o ≡ Some found → (b ≡ true → P new) → ((c : Binding) → o ≡ Some c → P c) → P found
-  by_name P true new o found e h k = subst P (let f : Some new ≡ Some found = e in cc) (h refl)
-  by_name P false new o found e h k = k found e
 
   -- with a name that is right
   pub right_named : (env : Env) (x : Name) (m : Meaning) → IsRight p vars env → MeaningTyped (layout_of env) m → ((y : Name) → x ≡ y → MeaningRight p vars env y m) → IsRight p vars (with_name env x m)
@@ -245,8 +246,7 @@ module _ (p : Program) (vars : List CType) where
       by_part (fine a) (fine o) h s =
           both_hold {A = Met} (λ _. Unit {0}) (IsStatementTreeRight typed.Stmt env next (x.name ∷ []) (λ s. IsFirst p vars s × IsRight p vars (with_name env x.name (a_local (number_in next x.name) o.whole o.whole)))) (IsStatementTreeRight typed.Stmt env next (x.name ∷ []) (λ s. IsFirst p vars s × IsRight p vars (with_name env x.name (a_local (number_in next x.name) o.whole o.whole))))
           (fine a) (local_of (with_name env x.name (a_local (number_in next x.name) o.seen o.whole)) b next x m o) (λ _ q. fine q) tt (local_of_right env b next x m o h l s) (λ _ q _ k. k)
-      by_part (fine a) (faulty f fs) h s = tt
-      by_part (faulty g gs) r h s = tt
+      by_part n r h s = tt
 
   named_right : (env : Env) (b : Before) (next : Next) (at : ℕ) (s : Spec) (d : Declarator) (m : MaybeInit) (o : Option Ident) → IsMaybeInitLexical m → StringsIn p vars (string_number env b) (held_by_named env at s d m o)
       → Holds (IsStatementTreeRight typed.Stmt env next (name_or_empty o ∷ []) (λ t. IsFirst p vars t × IsRight p vars (behind_named env next at s d m o))) (local_named env b next at s d m o)
@@ -255,36 +255,20 @@ module _ (p : Program) (vars : List CType) where
       alone_holds (IsStatementTreeRight typed.Stmt env next (x.name ∷ []) (λ t. IsFirst p vars t × IsRight p vars (behind_named env next at s d m (Some x)))) (is_given env x.name (type_declared env at s d)) 3 (place_or at d) (local env b next x m (object_declared env at s d x m))
       (local_right_at env b next x m (object_declared env at s d x m) (declared_right env at s d x m) l h)
 
-  named_whole : (env : Env) (next : Next) (at : ℕ) (s : Spec) (d : Declarator) (m : MaybeInit) (o : Option Ident) → (behind_named env next at s d m o).whole ≡ env.whole
-  named_whole env next at s d m None = refl
-  named_whole env next at s d m (Some x) = refl
-
-  named_layout : (env : Env) (next : Next) (at : ℕ) (s : Spec) (d : Declarator) (m : MaybeInit) (o : Option Ident) → layout_of (behind_named env next at s d m o) ≡ layout_of env
-  named_layout env next at s d m None = refl
-  named_layout env next at s d m (Some x) = refl
-
-  parts_layout : (ps : Parts) (env : Env) (next : Next) (at : ℕ) (s : Spec) → layout_of (behind_parts env next at s ps) ≡ layout_of env
-  parts_layout no_parts env next at s = refl
-  parts_layout (more_parts d m ps) env next at s = parts_layout ps (behind_part env next at s d m) (past_part next d) at s ∙ named_layout env next at s d m (name_of d)
-
-  pub decl_layout : (d : Decl) (env : Env) (next : Next) → layout_of (behind_decl env next d) ≡ layout_of env
-  decl_layout (decl at class s ps) env next = parts_layout ps env next at s
-
-  parts_whole : (ps : Parts) (env : Env) (next : Next) (at : ℕ) (s : Spec) → (behind_parts env next at s ps).whole ≡ env.whole
-  parts_whole no_parts env next at s = refl
-  parts_whole (more_parts d m ps) env next at s = parts_whole ps (behind_part env next at s d m) (past_part next d) at s ∙ named_whole env next at s d m (name_of d)
-
   pub strings_moved : (env other : Env) (b : Before) (ws : List (List ℕ)) → other.whole ≡ env.whole → StringsIn p vars (string_number env b) ws → StringsIn p vars (string_number other b) ws
   strings_moved env other b ws e h = subst (λ w. StringsIn p vars (length w.objects + length b.strings) ws) (sym e) h
 
   -- two parts, one behind the other
-  pub one_and_rest : (env inner behind : Env) (next : Next) (xs ys : List Name) (T : typed.Stmt → Type 0) (U V : typed.Stmts → Type 0) (a : StatementTree typed.Stmt) (c : StatementTree typed.Stmts) → layout_of inner ≡ layout_of env
-      → IsStatementTreeRight typed.Stmt env next xs T a → IsStatementTreeRight typed.Stmts inner (past_names next xs) ys U c → (T a.tree → IsRight p vars env → IsRight p vars inner) → (T a.tree → U c.tree → V (typed.more_stmts a.tree c.tree)) → IsStatementTreeRight typed.Stmts env next (xs ++ ys) V (one_more a c)
-  one_and_rest env inner behind next xs ys T U V a c same h k f g = record {
-    numbers = ahead_both next (past_names next xs) a.plain c.plain a.added c.added xs ys h.numbers k.numbers;
-    plain_sizes = each_both (IsComplete (layout_of env)) a.plain c.plain h.plain_sizes (subst (λ z. AreKnownSizes z c.plain) same k.plain_sizes);
-    added_sizes = each_both (IsComplete (layout_of env)) a.added c.added h.added_sizes (subst (λ z. AreKnownSizes z c.added) same k.added_sizes);
-    right = λ w q. (let x = h.right w (placed_first next a.plain c.plain a.added c.added q) in let y = k.right (f x.0 w) (placed_rest next (past_names next xs) a.plain c.plain a.added c.added h.numbers q) in (g x.0 y.0, each_both (IsObject p.structs) a.plain c.plain x.1 y.1, each_both (IsObject p.structs) a.added c.added x.2 y.2));
+  pub join_right : (A B C : Type 0) (env inner : Env) (next : Next) (xs ys : List Name) (T : A → Type 0) (U : B → Type 0) (V : C → Type 0) (a : StatementTree A) (b : StatementTree B) (c : C) → layout_of inner ≡ layout_of env
+      → IsStatementTreeRight A env next xs T a → IsStatementTreeRight B inner (past_names next xs) ys U b → (T a.tree → IsRight p vars env → IsRight p vars inner) → (T a.tree → U b.tree → IsRight p vars env → V c) → IsStatementTreeRight C env next (xs ++ ys) V (joined a b c)
+  join_right A B C env inner next xs ys T U V a b c same h k f g = record {
+    numbers = ahead_both next (past_names next xs) a.plain b.plain a.added b.added xs ys h.numbers k.numbers;
+    plain_sizes = each_both (IsComplete (layout_of env)) a.plain b.plain h.plain_sizes (subst (λ z. AreKnownSizes z b.plain) same k.plain_sizes);
+    added_sizes = each_both (IsComplete (layout_of env)) a.added b.added h.added_sizes (subst (λ z. AreKnownSizes z b.added) same k.added_sizes);
+    right = λ w q.
+        (let x = h.right w (placed_first next a.plain b.plain a.added b.added q) in
+        let y = k.right (f x.0 w) (placed_rest next (past_names next xs) a.plain b.plain a.added b.added h.numbers q) in
+        (g x.0 y.0 w, each_both (IsObject p.structs) a.plain b.plain x.1 y.1, each_both (IsObject p.structs) a.added b.added x.2 y.2));
   }
 
   pub parts_right : (ps : Parts) (env : Env) (b : Before) (next : Next) (at : ℕ) (s : Spec) → ArePartsLexical ps → StringsIn p vars (string_number env b) (held_by_parts env next at s ps)
@@ -297,12 +281,12 @@ module _ (p : Program) (vars : List CType) where
       (IsStatementTreeRight typed.Stmts env next (names_of_parts (more_parts d m ps)) (λ t. AreFirst p vars t × IsRight p vars (behind_parts env next at s (more_parts d m ps))))
       (local_part env b next at s d m) (local_parts inner (after_part env b at s d m) (past_part next d) at s ps) (λ a c. fine (one_more a c))
       (named_right env b next at s d m (name_of d) l.0 (strings_first p vars (string_number env b) (held_by_part env at s d m) (held_by_parts inner (past_part next d) at s ps) h))
-      (parts_right ps inner (after_part env b at s d m) (past_part next d) at s l.1 (strings_moved env inner (after_part env b at s d m) (held_by_parts inner (past_part next d) at s ps) (named_whole env next at s d m (name_of d)) (strings_rest p vars env b (calls_of_maybe_init m) (held_by_part env at s d m) (held_by_parts inner (past_part next d) at s ps) h)))
-      (λ a c x y. one_and_rest env inner (behind_parts inner (past_part next d) at s ps) next n (names_of_parts ps) (λ t. IsFirst p vars t × IsRight p vars inner) (λ t. AreFirst p vars t × IsRight p vars (behind_parts inner (past_part next d) at s ps)) (λ t. AreFirst p vars t × IsRight p vars (behind_parts inner (past_part next d) at s ps)) a c (named_layout env next at s d m (name_of d)) x y (λ u _. u.1) (λ u v. ((u.0, v.0), v.1)))
+      (parts_right ps inner (after_part env b at s d m) (past_part next d) at s l.1 (strings_moved env inner (after_part env b at s d m) (held_by_parts inner (past_part next d) at s ps) (named_keeps (λ e. e.whole) (λ _ _ _. refl) env next at s d m (name_of d)) (strings_rest p vars env b (calls_of_maybe_init m) (held_by_part env at s d m) (held_by_parts inner (past_part next d) at s ps) h)))
+      (λ a c x y. join_right typed.Stmt typed.Stmts typed.Stmts env inner next n (names_of_parts ps) (λ t. IsFirst p vars t × IsRight p vars inner) (λ t. AreFirst p vars t × IsRight p vars (behind_parts inner (past_part next d) at s ps)) (λ t. AreFirst p vars t × IsRight p vars (behind_parts inner (past_part next d) at s ps)) a c (typed.more_stmts a.tree c.tree) (named_keeps layout_of (λ _ _ _. refl) env next at s d m (name_of d)) x y (λ u _. u.1) (λ u v _. ((u.0, v.0), v.1)))
 
   pub decl_right : (d : Decl) (env : Env) (b : Before) (next : Next) → IsDeclLexical d → StringsIn p vars (string_number env b) (held_by_decl env next d)
       → Holds (IsStatementTreeRight typed.Stmts env next (names_of_decl d) (λ t. AreFirst p vars t × IsRight p vars (behind_decl env next d))) (local_decl env b next d)
   decl_right (decl at class s ps) env b next l h = parts_right ps env b next at s l h
 
   pub decl_whole : (d : Decl) (env : Env) (next : Next) → (behind_decl env next d).whole ≡ env.whole
-  decl_whole (decl at class s ps) env next = parts_whole ps env next at s
+  decl_whole d env next = decl_keeps (λ e. e.whole) (λ _ _ _. refl) d env next

@@ -32,10 +32,11 @@ use Rattle.c_rules.specs.Statements.{Around, in_loop, in_switch, condition_at, t
 use Rattle.c_rules_laws.specs.Lexical.{IsMaybeLexical, IsFirstLexical, IsStmtLexical, AreItemsLexical, AreStmtsLexical, AreGroupsLexical, IsLexical}
 use Rattle.c_rules_laws.specs.RightScopes.{IsRight, StringsIn}
 use Rattle.c_rules_laws.proofs.Holding.{Holds, on_holds, both_hold, all_three_hold, demand_holds, and_left, and_right, each_both, Any, anything}
-use Rattle.c_rules_laws.proofs.TypesOfTypedExpressions.{kind_integer}
-use Rattle.c_rules_laws.proofs.RightTypedExpressions.{promoted_is, ValueRight, RightAs, converted_right, fits_scalar, assigned_right, condition_right}
+use Rattle.c_rules_laws.proofs.Operators.{kind_integer, promoted_is}
+use Rattle.c_rules_laws.proofs.RightTypedExpressions.{ValueRight, RightAs, converted_right, fits_scalar, assigned_right, condition_right}
 use Rattle.c_rules_laws.proofs.RightExpressions.{strings_first, strings_rest, ValueBoth, value_right}
-use Rattle.c_rules_laws.proofs.RightDeclarations.{holds_given, placed_first, placed_rest, ahead_both, ahead_none, AreKnownSizes, IsStatementTreeRight, right_inside, decl_right, decl_whole, decl_layout, strings_moved}
+use Rattle.c_rules_laws.proofs.RightDeclarations.{holds_given, placed_first, placed_rest, ahead_both, ahead_none, AreKnownSizes, IsStatementTreeRight, right_inside, join_right, decl_right, strings_moved}
+use Rattle.c_rules_laws.proofs.SitesOfStatements.{decl_keeps, first_keeps}
 use Rattle.c_rules_laws.proofs.MadeTypes.{void_is}
 
 -- ## Labels
@@ -93,32 +94,12 @@ module _ (p : Program) (vars : List CType) where
   tree_right : (A B : Type 0) (env other : Env) (next : Next) (names : List Name) (T : A → Type 0) (U : B → Type 0) (q : StatementTree A) (c : B) → layout_of other ≡ layout_of env → IsStatementTreeRight p vars A other next names T q → (IsRight p vars env → IsRight p vars other) → (T q.tree → IsRight p vars env → U c) → IsStatementTreeRight p vars B env next names U (with_tree q c)
   tree_right A B env other next names T U q c same h g f = record { numbers = h.numbers; plain_sizes = subst (λ z. AreKnownSizes p vars z q.plain) same h.plain_sizes; added_sizes = subst (λ z. AreKnownSizes p vars z q.added) same h.added_sizes; right = λ w x. (let y = h.right (g w) x in (f y.0 w, y.1, y.2)) }
 
-  join_right : (A B C : Type 0) (env inner : Env) (next : Next) (xs ys : List Name) (T : A → Type 0) (U : B → Type 0) (V : C → Type 0) (a : StatementTree A) (b : StatementTree B) (c : C) → layout_of inner ≡ layout_of env
-      → IsStatementTreeRight p vars A env next xs T a → IsStatementTreeRight p vars B inner (past_names next xs) ys U b → (T a.tree → IsRight p vars env → IsRight p vars inner) → (T a.tree → U b.tree → IsRight p vars env → V c) → IsStatementTreeRight p vars C env next (xs ++ ys) V (joined a b c)
-  join_right A B C env inner next xs ys T U V a b c same h k f g = record {
-    numbers = ahead_both p vars next (past_names next xs) a.plain b.plain a.added b.added xs ys h.numbers k.numbers;
-    plain_sizes = each_both (IsComplete (layout_of env)) a.plain b.plain h.plain_sizes (subst (λ z. AreKnownSizes p vars z b.plain) same k.plain_sizes);
-    added_sizes = each_both (IsComplete (layout_of env)) a.added b.added h.added_sizes (subst (λ z. AreKnownSizes p vars z b.added) same k.added_sizes);
-    right = λ w q.
-        (let x = h.right w (placed_first p vars next a.plain b.plain a.added b.added q) in
-        let y = k.right (f x.0 w) (placed_rest p vars next (past_names next xs) a.plain b.plain a.added b.added h.numbers q) in
-        (g x.0 y.0 w, each_both (IsObject p.structs) a.plain b.plain x.1 y.1, each_both (IsObject p.structs) a.added b.added x.2 y.2));
-  }
-
   -- in a scope round it
   in_outer : (env outer : Env) (next : Next) (names : List Name) (T : typed.Stmt → Type 0) (q : StatementTree typed.Stmt) → layout_of outer ≡ layout_of env → IsStatementTreeRight p vars typed.Stmt outer next names T q → (IsRight p vars env → IsRight p vars outer) → IsStatementTreeRight p vars typed.Stmt env next names T q
   in_outer env outer next names T q same h f = record { numbers = h.numbers; plain_sizes = subst (λ z. AreKnownSizes p vars z q.plain) same h.plain_sizes; added_sizes = subst (λ z. AreKnownSizes p vars z q.added) same h.added_sizes; right = λ w x. h.right (f w) x }
 
   is_true : (b : Bool) → b ≡ true → IsTrue b
   is_true b e = subst IsTrue (sym e) refl
-
-  first_whole : (x : First) (env : Env) (next : Next) → (behind_first env next x).whole ≡ env.whole
-  first_whole (first_decl d) env next = decl_whole p vars d env next
-  first_whole x env next = refl
-
-  first_layout : (x : First) (env : Env) (next : Next) → layout_of (behind_first env next x) ≡ layout_of env
-  first_layout (first_decl d) env next = decl_layout p vars d env next
-  first_layout x env next = refl
 
   first_right : (x : First) (env : Env) (b : Before) (next : Next) → IsFirstLexical x → StringsIn p vars (string_number env b) (held_by_first env next x) → Holds (IsStatementTreeRight p vars typed.Stmts env next (names_of_first x) (λ t. AreFirst p vars t × IsRight p vars (behind_first env next x))) (first_of env b next x)
   first_right first_absent env b next l s = bare_right typed.Stmts env next _ typed.no_stmts (λ w. (tt, w))
@@ -202,7 +183,7 @@ module _ (p : Program) (vars : List CType) where
         (condition_at_right env b at x l.0 (strings_first p vars (string_number env b) (strings x) (held_by_stmt env next t ++ held_by_stmt env names u) s))
         (stmt_right t env a (after b x) next l.1 (strings_first p vars (string_number env (after b x)) (held_by_stmt env next t) (held_by_stmt env names u) rest))
         (stmt_right u env a b2 names l.2 (strings_rest p vars env (after b x) (calls_of_stmt t) (held_by_stmt env next t) (held_by_stmt env names u) rest))
-        (λ c q r f h k. join_right typed.Stmt typed.Stmt typed.Stmt env env next (names_of_stmt t) (names_of_stmt u) (IsStmt p vars a.returns a.breaks a.continues) (IsStmt p vars a.returns a.breaks a.continues) (IsStmt p vars a.returns a.breaks a.continues) q r (typed.if_else c q.tree r.tree) refl h k (λ _ w. w) (λ y z w. (f w, y, z)))
+        (λ c q r f h k. join_right p vars typed.Stmt typed.Stmt typed.Stmt env env next (names_of_stmt t) (names_of_stmt u) (IsStmt p vars a.returns a.breaks a.continues) (IsStmt p vars a.returns a.breaks a.continues) (IsStmt p vars a.returns a.breaks a.continues) q r (typed.if_else c q.tree r.tree) refl h k (λ _ w. w) (λ y z w. (f w, y, z)))
     stmt_right (while_loop at x t) env a b next l s =
         both_hold (CondRight env) (StmtRight env (in_loop a) next (names_of_stmt t)) (StmtRight env a next (names_of_stmt t)) (condition_at at (value env b x)) (stmt env (in_loop a) (after b x) next t) (λ c q. fine (with_tree q (typed.while_loop c q.tree)))
         (condition_at_right env b at x l.0 (strings_first p vars (string_number env b) (strings x) (held_by_stmt env next t) s)) (stmt_right t env (in_loop a) (after b x) next l.1 (strings_rest p vars env b (calls x) (strings x) (held_by_stmt env next t) s))
@@ -218,7 +199,7 @@ module _ (p : Program) (vars : List CType) where
         let b2 = after_maybe b1 test in
         let b3 = after_maybe b2 step in
         let names = past_names next (names_of_first first) in
-        let s1 = strings_moved p vars outer inner b1 (strings_of_maybe test ++ (strings_of_maybe step ++ held_by_stmt inner names t)) (first_whole first outer next) (strings_rest p vars outer b (calls_of_first first) (held_by_first outer next first) (strings_of_maybe test ++ (strings_of_maybe step ++ held_by_stmt inner names t)) s) in
+        let s1 = strings_moved p vars outer inner b1 (strings_of_maybe test ++ (strings_of_maybe step ++ held_by_stmt inner names t)) (first_keeps (λ e. e.whole) (λ _ _ _. refl) first outer next) (strings_rest p vars outer b (calls_of_first first) (held_by_first outer next first) (strings_of_maybe test ++ (strings_of_maybe step ++ held_by_stmt inner names t)) s) in
         let s2 = strings_rest p vars inner b1 (calls_of_maybe test) (strings_of_maybe test) (strings_of_maybe step ++ held_by_stmt inner names t) s1 in
         all_three_hold (IsStatementTreeRight p vars typed.Stmts outer next (names_of_first first) (λ y. AreFirst p vars y × IsRight p vars inner)) (λ c. TestRight inner c.first × StepRight inner c.second) (StmtRight inner (in_loop a) names (names_of_stmt t)) (StmtRight env a next (names_of_first first ++ names_of_stmt t))
         (first_of outer b next first) (beside (test_of inner b1 at test) (step_of inner b2 step)) (stmt inner (in_loop a) b3 names t) (λ q tests r. fine (for_of q tests r))
@@ -227,7 +208,7 @@ module _ (p : Program) (vars : List CType) where
         (test_right test inner b1 at l.1 (strings_first p vars (string_number inner b1) (strings_of_maybe test) (strings_of_maybe step ++ held_by_stmt inner names t) s1)) (step_right step inner b2 l.2 (strings_first p vars (string_number inner b2) (strings_of_maybe step) (held_by_stmt inner names t) s2)) (λ x y h k. (h, k)))
         (stmt_right t inner (in_loop a) b3 names l.3 (strings_rest p vars inner b2 (calls_of_maybe step) (strings_of_maybe step) (held_by_stmt inner names t) s2))
         (λ q c r h f k. in_outer env outer next (names_of_first first ++ names_of_stmt t) (IsStmt p vars a.returns a.breaks a.continues) (for_of q c r) refl
-        (join_right typed.Stmts typed.Stmt typed.Stmt outer inner next (names_of_first first) (names_of_stmt t) (λ y. AreFirst p vars y × IsRight p vars inner) (IsStmt p vars a.returns true true) (IsStmt p vars a.returns a.breaks a.continues) q r (typed.for_loop q.tree c.first c.second r.tree) (first_layout first outer next) h k (λ y _. y.1) (λ y z w. (y.0, f.0 y.1, f.1 y.1, z))) (right_inside p vars env))
+        (join_right p vars typed.Stmts typed.Stmt typed.Stmt outer inner next (names_of_first first) (names_of_stmt t) (λ y. AreFirst p vars y × IsRight p vars inner) (IsStmt p vars a.returns true true) (IsStmt p vars a.returns a.breaks a.continues) q r (typed.for_loop q.tree c.first c.second r.tree) (first_keeps layout_of (λ _ _ _. refl) first outer next) h k (λ y _. y.1) (λ y z w. (y.0, f.0 y.1, f.1 y.1, z))) (right_inside p vars env))
     stmt_right (switch_on at x gs) env a b next l s =
         switch_right env at a next (names_of_groups gs) (switched at (value env b x)) (λ i. groups_of_switch env (in_switch a) (after b x) next i gs)
         (on_holds (λ g. IsRight p vars env → ValueBoth p vars env g) (λ h. IsRight p vars env → (i : IntType) × (h.ctype ≡ integer i) × IsPromoted i × ValueRight p vars h) (value env b x) (λ g. switched_kind at g (kind_of g.ctype))
@@ -246,14 +227,14 @@ module _ (p : Program) (vars : List CType) where
         both_hold (IsStatementTreeRight p vars typed.Stmts env next (names_of_decl d) (λ y. AreFirst p vars y × IsRight p vars inner)) (StmtsRight inner a names (names_of_block is)) (StmtsRight env a next (names_of_decl d ++ names_of_block is))
         (local_decl env b next d) (items_of_block inner a (after_decl env b next d) names is) (λ q r. fine (some_more q r))
         (decl_right p vars d env b next l.0 (strings_first p vars (string_number env b) (held_by_decl env next d) (held_by_block inner names is) s))
-        (block_right is inner a (after_decl env b next d) names l.1 (strings_moved p vars env inner (after_decl env b next d) (held_by_block inner names is) (decl_whole p vars d env next) (strings_rest p vars env b (calls_of_decl d) (held_by_decl env next d) (held_by_block inner names is) s)))
-        (λ q r h k. join_right typed.Stmts typed.Stmts typed.Stmts env inner next (names_of_decl d) (names_of_block is) (λ y. AreFirst p vars y × IsRight p vars inner) (AreStmts p vars a.returns a.breaks a.continues) (AreStmts p vars a.returns a.breaks a.continues) q r (appended q.tree r.tree) (decl_layout p vars d env next) h k (λ y _. y.1) (λ y z _. first_appended a.returns a.breaks a.continues q.tree r.tree y.0 z))
+        (block_right is inner a (after_decl env b next d) names l.1 (strings_moved p vars env inner (after_decl env b next d) (held_by_block inner names is) (decl_keeps (λ e. e.whole) (λ _ _ _. refl) d env next) (strings_rest p vars env b (calls_of_decl d) (held_by_decl env next d) (held_by_block inner names is) s)))
+        (λ q r h k. join_right p vars typed.Stmts typed.Stmts typed.Stmts env inner next (names_of_decl d) (names_of_block is) (λ y. AreFirst p vars y × IsRight p vars inner) (AreStmts p vars a.returns a.breaks a.continues) (AreStmts p vars a.returns a.breaks a.continues) q r (appended q.tree r.tree) (decl_keeps layout_of (λ _ _ _. refl) d env next) h k (λ y _. y.1) (λ y z _. first_appended a.returns a.breaks a.continues q.tree r.tree y.0 z))
     block_right (block_stmt t is) env a b next l s =
         let names = past_names next (names_of_stmt t) in
         both_hold (StmtRight env a next (names_of_stmt t)) (StmtsRight env a names (names_of_block is)) (StmtsRight env a next (names_of_stmt t ++ names_of_block is))
         (stmt env a b next t) (items_of_block env a (after_stmt env b next t) names is) (λ q r. fine (one_more q r))
         (stmt_right t env a b next l.0 (strings_first p vars (string_number env b) (held_by_stmt env next t) (held_by_block env names is) s)) (block_right is env a (after_stmt env b next t) names l.1 (strings_rest p vars env b (calls_of_stmt t) (held_by_stmt env next t) (held_by_block env names is) s))
-        (λ q r h k. join_right typed.Stmt typed.Stmts typed.Stmts env env next (names_of_stmt t) (names_of_block is) (IsStmt p vars a.returns a.breaks a.continues) (AreStmts p vars a.returns a.breaks a.continues) (AreStmts p vars a.returns a.breaks a.continues) q r (typed.more_stmts q.tree r.tree) refl h k (λ _ w. w) (λ y z _. (y, z)))
+        (λ q r h k. join_right p vars typed.Stmt typed.Stmts typed.Stmts env env next (names_of_stmt t) (names_of_block is) (IsStmt p vars a.returns a.breaks a.continues) (AreStmts p vars a.returns a.breaks a.continues) (AreStmts p vars a.returns a.breaks a.continues) q r (typed.more_stmts q.tree r.tree) refl h k (λ _ w. w) (λ y z _. (y, z)))
 
     stmts_right : (ss : Stmts) (env : Env) (a : Around) (b : Before) (next : Next) → AreStmtsLexical ss → StringsIn p vars (string_number env b) (held_by_stmts env next ss) → Holds (StmtsRight env a next (names_of_stmts ss)) (stmts env a b next ss)
     stmts_right no_stmts env a b next l s = bare_right typed.Stmts env next (AreStmts p vars a.returns a.breaks a.continues) typed.no_stmts (λ _. tt)
@@ -262,7 +243,7 @@ module _ (p : Program) (vars : List CType) where
         both_hold (StmtRight env a next (names_of_stmt t)) (StmtsRight env a names (names_of_stmts ss)) (StmtsRight env a next (names_of_stmt t ++ names_of_stmts ss))
         (stmt env a b next t) (stmts env a (after_stmt env b next t) names ss) (λ q r. fine (one_more q r))
         (stmt_right t env a b next l.0 (strings_first p vars (string_number env b) (held_by_stmt env next t) (held_by_stmts env names ss) s)) (stmts_right ss env a (after_stmt env b next t) names l.1 (strings_rest p vars env b (calls_of_stmt t) (held_by_stmt env next t) (held_by_stmts env names ss) s))
-        (λ q r h k. join_right typed.Stmt typed.Stmts typed.Stmts env env next (names_of_stmt t) (names_of_stmts ss) (IsStmt p vars a.returns a.breaks a.continues) (AreStmts p vars a.returns a.breaks a.continues) (AreStmts p vars a.returns a.breaks a.continues) q r (typed.more_stmts q.tree r.tree) refl h k (λ _ w. w) (λ y z _. (y, z)))
+        (λ q r h k. join_right p vars typed.Stmt typed.Stmts typed.Stmts env env next (names_of_stmt t) (names_of_stmts ss) (IsStmt p vars a.returns a.breaks a.continues) (AreStmts p vars a.returns a.breaks a.continues) (AreStmts p vars a.returns a.breaks a.continues) q r (typed.more_stmts q.tree r.tree) refl h k (λ _ w. w) (λ y z _. (y, z)))
 
     groups_right : (gs : Groups) (env : Env) (a : Around) (b : Before) (next : Next) (i : IntType) → AreGroupsLexical gs → StringsIn p vars (string_number env b) (held_by_groups env next gs) → Holds (AreGroupsRight env (in_switch a) next (names_of_groups gs) i) (groups_of_switch env (in_switch a) b next i gs)
     groups_right no_groups env a b next i l s = record { laid = bare_right typed.Groups env next (AreGroups p vars a.returns a.continues i) typed.no_groups (λ _. tt); counted = refl }
@@ -272,6 +253,6 @@ module _ (p : Program) (vars : List CType) where
         (labels_of env i ls) (stmts env (in_switch a) b next ss) (groups_of_switch env (in_switch a) (after_stmts env b next ss) names i gs) (λ vs q rest. fine (labelled vs q rest)) (labels_right env i ls)
         (stmts_right ss env (in_switch a) b next l.0 (strings_first p vars (string_number env b) (held_by_stmts env next ss) (held_by_groups env names gs) s)) (groups_right gs env a (after_stmts env b next ss) names i l.1 (strings_rest p vars env b (calls_of_stmts ss) (held_by_stmts env next ss) (held_by_groups env names gs) s))
         (λ vs q r v h k. record {
-          laid = join_right typed.Stmts typed.Groups typed.Groups env env next (names_of_stmts ss) (names_of_groups gs) (AreStmts p vars a.returns true a.continues) (AreGroups p vars a.returns a.continues i) (AreGroups p vars a.returns a.continues i) q r.groups (typed.more_groups vs q.tree r.groups.tree) refl h k.laid (λ _ w. w) (λ y z _. (v, y, z));
+          laid = join_right p vars typed.Stmts typed.Groups typed.Groups env env next (names_of_stmts ss) (names_of_groups gs) (AreStmts p vars a.returns true a.continues) (AreGroups p vars a.returns a.continues i) (AreGroups p vars a.returns a.continues i) q r.groups (typed.more_groups vs q.tree r.groups.tree) refl h k.laid (λ _ w. w) (λ y z _. (v, y, z));
           counted = (let c = k.counted in let d = labels_both vs r.labels in omega (arith, c, d));
         })

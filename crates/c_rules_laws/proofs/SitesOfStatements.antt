@@ -1,12 +1,12 @@
 -- The sites in statements are the numbers from that of the calls before them on; and the limits on calls and strings hold.
 use Rattle.std.proofs.Common.{◌≡◌, ℕ, suc, ◌+◌, Bool, true, false, if◌then◌else◌, List, [], ◌∷◌, ◌++◌, append_assoc, Option, Some, None, refl, ap, ap₂, sym, subst, ◌∙◌}
 use Rattle.c_tree.specs.declared.value.IntType.{IntType}
-use Rattle.c_tree.specs.Tree.{CType}
+use Rattle.c_tree.specs.Tree.{CType, CTypes, more_types}
 use Rattle.c_tree.specs.Tree as typed
 use Rattle.c_tree.specs.Sites.{sites_of, sites_of_maybe, sites_of_inits, sites_of_stmt, sites_of_stmts, sites_of_groups}
 use Rattle.c_tree.specs.Operands.{promoted}
 use Rattle.c_syntax.specs.Tree as syntax
-use Rattle.c_syntax.specs.Tree.{Ident, Spec, Declarator, Init, one, list, MaybeInit, no_init, an_init, Parts, no_parts, more_parts, Decl, decl, Expr, Maybe, absent, there, First, first_absent, first_expr, first_decl}
+use Rattle.c_syntax.specs.Tree.{Ident, Spec, Declarator, Init, one, list, MaybeInit, no_init, an_init, Parts, no_parts, more_parts, Decl, decl, Expr, Maybe, absent, there, First, first_absent, first_expr, first_decl, Params, more_params}
 use Rattle.c_syntax.specs.Tree.{Stmt, block, empty, evaluate, only_if, if_else, while_loop, do_loop, for_loop, switch_on, break_off, continue_on, return_from}
 use Rattle.c_syntax.specs.Tree.{BlockItems, no_block_items, block_decl, block_stmt, Stmts, no_stmts, more_stmts, Groups, no_groups, more_groups}
 use Rattle.c_rules.specs.Checked.{Checked, fine, faulty, on, both, beside, Met}
@@ -28,6 +28,7 @@ use Rattle.c_rules_laws.proofs.RightInitialisers.{InitCounted, local_counted, st
 use Rattle.c_rules.proofs.NothingMore.{nothing_more}
 use Rattle.c_rules_laws.proofs.GatheredOfTypedExpressions.{Gathers, condition_gathered, as_if_gathered, converted_gathered}
 use Rattle.c_tree.specs.Sites.{all_sites}
+use Rattle.c_rules.specs.Functions.{with_parameter, with_parameters}
 
 -- these are the sites of a part, with so many calls and these strings
 abbrev pub IsSpan : Before → ℕ → List (List ℕ) → List ℕ → Type 0
@@ -44,20 +45,30 @@ span_alone b n ws xs h = (nothing_more xs ∙ h.0, h.1)
 
 -- ## Declarations
 
-named_context : (env : Env) (next : Next) (at : ℕ) (s : Spec) (d : Declarator) (m : MaybeInit) (x : Option Ident) → env.context ≡ evaluated → (behind_named env next at s d m x).context ≡ evaluated
-named_context env next at s d m None e = e
-named_context env next at s d m (Some x) e = e
+-- what a name in scope doesn't change, declarations don't
+module _ {A : Type 0} (F : Env → A) (same : (env : Env) (x : Name) (m : Meaning) → F (with_name env x m) ≡ F env) where
+  pub named_keeps : (env : Env) (next : Next) (at : ℕ) (s : Spec) (d : Declarator) (m : MaybeInit) (o : Option Ident) → F (behind_named env next at s d m o) ≡ F env
+  named_keeps env next at s d m None = refl
+  named_keeps env next at s d m (Some x) = same env x.name _
 
-parts_context : (env : Env) (next : Next) (at : ℕ) (s : Spec) (ps : Parts) → env.context ≡ evaluated → (behind_parts env next at s ps).context ≡ evaluated
-parts_context env next at s no_parts e = e
-parts_context env next at s (more_parts d m ps) e = parts_context (behind_part env next at s d m) (past_part next d) at s ps (named_context env next at s d m (name_of d) e)
+  parts_keep : (ps : Parts) (env : Env) (next : Next) (at : ℕ) (s : Spec) → F (behind_parts env next at s ps) ≡ F env
+  parts_keep no_parts env next at s = refl
+  parts_keep (more_parts d m ps) env next at s = parts_keep ps (behind_part env next at s d m) (past_part next d) at s ∙ named_keeps env next at s d m (name_of d)
 
-decl_context : (env : Env) (next : Next) (d : Decl) → env.context ≡ evaluated → (behind_decl env next d).context ≡ evaluated
-decl_context env next (decl at class s ps) e = parts_context env next at s ps e
+  pub decl_keeps : (d : Decl) (env : Env) (next : Next) → F (behind_decl env next d) ≡ F env
+  decl_keeps (decl at class s ps) env next = parts_keep ps env next at s
 
-first_context : (env : Env) (next : Next) (x : First) → env.context ≡ evaluated → (behind_first env next x).context ≡ evaluated
-first_context env next (first_decl d) e = decl_context env next d e
-first_context env next x e = e
+  pub first_keeps : (x : First) (env : Env) (next : Next) → F (behind_first env next x) ≡ F env
+  first_keeps (first_decl d) env next = decl_keeps d env next
+  first_keeps x env next = refl
+
+  pub parameter_keeps : (env : Env) (k : ℕ) (o : Option Ident) (t : CType) → F (with_parameter env k o t) ≡ F env
+  parameter_keeps env k None t = refl
+  parameter_keeps env k (Some x) t = same env x.name _
+
+  pub params_keep : (ps : Params) (ts : CTypes) (env : Env) (k : ℕ) → F (with_parameters env k ps ts) ≡ F env
+  params_keep (more_params at s d ps) (more_types t ts) env k = params_keep ps ts (with_parameter env k (name_of d) t) (suc k) ∙ parameter_keeps env k (name_of d) t
+  params_keep ps ts env k = refl
 
 abbrev pub StmtSpan : Before → ℕ → List (List ℕ) → StatementTree typed.Stmt → Type 0
 StmtSpan b n ws p = IsSpan b n ws (sites_of_stmt p.tree)
@@ -112,7 +123,7 @@ parts_span no_parts env c b next at s = span_none b
 parts_span (more_parts d m ps) env c b next at s =
     both_hold (StmtSpan b (calls_of_maybe_init m) (held_by_part env at s d m)) (StmtsSpan (after_part env b at s d m) (calls_of_parts ps) (held_by_parts (behind_part env next at s d m) (past_part next d) at s ps)) (StmtsSpan b (calls_of_maybe_init m + calls_of_parts ps) (held_by_part env at s d m ++ held_by_parts (behind_part env next at s d m) (past_part next d) at s ps))
     (local_part env b next at s d m) (local_parts (behind_part env next at s d m) (after_part env b at s d m) (past_part next d) at s ps) (λ p q. fine (one_more p q))
-    (named_span env c b next at s d m (name_of d)) (parts_span ps (behind_part env next at s d m) (named_context env next at s d m (name_of d) c) (after_part env b at s d m) (past_part next d) at s)
+    (named_span env c b next at s d m (name_of d)) (parts_span ps (behind_part env next at s d m) (named_keeps (λ e. e.context) (λ _ _ _. refl) env next at s d m (name_of d) ∙ c) (after_part env b at s d m) (past_part next d) at s)
     (λ p q h k. span_both b (calls_of_maybe_init m) (calls_of_parts ps) (held_by_part env at s d m) (held_by_parts (behind_part env next at s d m) (past_part next d) at s ps) (sites_of_stmt p.tree) (sites_of_stmts q.tree) h k)
 
 pub decl_span : (d : Decl) (env : Env) → env.context ≡ evaluated → (b : Before) (next : Next) → Holds (StmtsSpan b (calls_of_decl d) (held_by_decl env next d)) (local_decl env b next d)
@@ -188,7 +199,7 @@ mutual
       let b2 = after_maybe b1 test in
       let b3 = after_maybe b2 step in
       let names = past_names next (names_of_first first) in
-      let d = first_context outer next first c in
+      let d = first_keeps (λ e. e.context) (λ _ _ _. refl) first outer next ∙ c in
       all_three_hold (StmtsSpan b (calls_of_first first) (held_by_first outer next first)) (λ t. MaybeSpan b1 test t.first × MaybeSpan b2 step t.second) (StmtSpan b3 (calls_of_stmt s) (held_by_stmt inner names s)) (StmtSpan b (calls_of_stmt (for_loop at first test step s)) (held_by_stmt env next (for_loop at first test step s)))
       (first_of outer b next first) (beside (test_of inner b1 at test) (step_of inner b2 step)) (stmt inner (in_loop a) b3 names s) (λ p tests q. fine (for_of p tests q))
       (first_span first outer c b next)
@@ -214,7 +225,7 @@ mutual
       let names = past_names next (names_of_decl d) in
       let inner = behind_decl env next d in
       both_hold (StmtsSpan b (calls_of_decl d) (held_by_decl env next d)) (StmtsSpan (after_decl env b next d) (calls_of_block is) (held_by_block inner names is)) (StmtsSpan b (calls_of_decl d + calls_of_block is) (held_by_decl env next d ++ held_by_block inner names is))
-      (local_decl env b next d) (items_of_block inner a (after_decl env b next d) names is) (λ p q. fine (some_more p q)) (decl_span d env c b next) (block_span is inner (decl_context env next d c) a (after_decl env b next d) names)
+      (local_decl env b next d) (items_of_block inner a (after_decl env b next d) names is) (λ p q. fine (some_more p q)) (decl_span d env c b next) (block_span is inner (decl_keeps (λ e. e.context) (λ _ _ _. refl) d env next ∙ c) a (after_decl env b next d) names)
       (λ p q h k. (let r = span_both b (calls_of_decl d) (calls_of_block is) (held_by_decl env next d) (held_by_block inner names is) (sites_of_stmts p.tree) (sites_of_stmts q.tree) h k in (sites_appended p.tree q.tree ∙ r.0, r.1)))
   block_span (block_stmt s is) env c a b next =
       let names = past_names next (names_of_stmt s) in

@@ -38,6 +38,7 @@ use Rattle.c_rules_laws.proofs.RightDeclarations.{AreKnownSizes, right_inside, r
 use Rattle.c_rules_laws.proofs.RightStatements.{StmtsRight, block_right}
 use Rattle.c_rules_laws.proofs.FileScopes.{IsFileRight, Follows}
 use Rattle.c_rules_laws.proofs.UnitScopes.{IsTable, scope_right}
+use Rattle.c_rules_laws.proofs.SitesOfStatements.{parameter_keeps, params_keep}
 
 -- ## Parameters
 
@@ -60,29 +61,11 @@ declared_fits (syntax.pointer at d) env t e = after_part (ParamsFit (parameters_
 declared_fits (syntax.array at d size) env t e = after_part (ParamsFit (parameters_of d)) (on (size_in env size) (array_of env at t)) (λ u. declared env d u) (λ u. declared_fits d env u e)
 declared_fits (syntax.function at (syntax.named here x) ps) env t e =
     on_holds (ParamsFit ps) (ParamsFit ps) (on (parameters (inside env) 0 ps) (function_of at t)) (λ u. fine u) (on_holds (λ ts. length (list_of ts) ≡ count_params ps) (ParamsFit ps) (parameters (inside env) 0 ps) (function_of at t) (params_long ps (inside env) 0) (λ ts h. function_fits ps at t ts h)) (λ u h. h)
-declared_fits (syntax.function at (syntax.pointer here d) ps) env t e = after_part (ParamsFit (parameters_of d)) (on (parameters (inside env) 0 ps) (function_of at t)) (λ u. declared env (syntax.pointer here d) u) (λ u. declared_fits (syntax.pointer here d) env u e)
-declared_fits (syntax.function at (syntax.array here d size) ps) env t e = after_part (ParamsFit (parameters_of d)) (on (parameters (inside env) 0 ps) (function_of at t)) (λ u. declared env (syntax.array here d size) u) (λ u. declared_fits (syntax.array here d size) env u e)
-declared_fits (syntax.function at (syntax.function here d qs) ps) env t e = after_part (ParamsFit (parameters_of (syntax.function here d qs))) (on (parameters (inside env) 0 ps) (function_of at t)) (λ u. declared env (syntax.function here d qs) u) (λ u. declared_fits (syntax.function here d qs) env u e)
+declared_fits (syntax.function at d ps) env t e = after_part (ParamsFit (parameters_of (syntax.function at d ps))) (on (parameters (inside env) 0 ps) (function_of at t)) (λ u. declared env d u) (λ u. declared_fits d env u e)
 declared_fits d env t e = absurd (cc)
 
 pub type_fits : (env : Env) (at : ℕ) (s : Spec) (d : Declarator) → declares_function d ≡ true → Holds (ParamsFit (parameters_of d)) (type_declared env at s d)
 type_fits env at s d e = after_part (ParamsFit (parameters_of d)) (type_of_spec env at s) (declared env d) (λ t. declared_fits d env t e)
-
-parameter_layout : (env : Env) (k : ℕ) (o : Option Ident) (t : CType) → layout_of (with_parameter env k o t) ≡ layout_of env
-parameter_layout env k None t = refl
-parameter_layout env k (Some x) t = refl
-
-params_layout : (ps : Params) (ts : CTypes) (env : Env) (k : ℕ) → layout_of (with_parameters env k ps ts) ≡ layout_of env
-params_layout (more_params at s d ps) (more_types t ts) env k = params_layout ps ts (with_parameter env k (name_of d) t) (suc k) ∙ parameter_layout env k (name_of d) t
-params_layout ps ts env k = refl
-
-parameter_whole : (env : Env) (k : ℕ) (o : Option Ident) (t : CType) → (with_parameter env k o t).whole ≡ env.whole
-parameter_whole env k None t = refl
-parameter_whole env k (Some x) t = refl
-
-params_whole : (ps : Params) (ts : CTypes) (env : Env) (k : ℕ) → (with_parameters env k ps ts).whole ≡ env.whole
-params_whole (more_params at s d ps) (more_types t ts) env k = params_whole ps ts (with_parameter env k (name_of d) t) (suc k) ∙ parameter_whole env k (name_of d) t
-params_whole ps ts env k = refl
 
 scalar_complete : (structs : Structs) (t : CType) → IsScalar t → IsComplete structs t
 scalar_complete structs (integer i) h = tt
@@ -101,7 +84,7 @@ module _ (p : Program) (vars : List CType) where
       let inner : Env = with_parameter env k (name_of d) t in
       let e : k + 0 ≡ k = omega arith in
       let got : slice_get vars k ≡ Some t = subst (λ n. slice_get vars n ≡ Some t) e (h 0 t refl) in
-      params_right ps ts inner (suc k) (parameter_right env k (name_of d) t w m.0 m.1 got) (subst (λ z. AllMade z ts) (sym (parameter_layout env k (name_of d) t)) m.2)
+      params_right ps ts inner (suc k) (parameter_right env k (name_of d) t w m.0 m.1 got) (subst (λ z. AllMade z ts) (sym (parameter_keeps layout_of (λ _ _ _. refl) env k (name_of d) t)) m.2)
       (λ j u q. (let f : k + suc j ≡ suc k + j = omega arith in subst (λ n. slice_get vars n ≡ Some u) f (h (suc j) u q)))
   params_right ps ts env k w m h = w
 
@@ -145,7 +128,7 @@ module _ (p : Program) (last : Env) (table : IsTable p last) where
       let w0 : IsRight p vars env = scope_right p vars env last w g table in
       let w1 : IsRight p vars (inside env) = right_inside p vars env w0 in
       let w2 : IsRight p vars inner = params_right p vars (parameters_of d) ts (inside env) 0 w1 m.3 (λ j u c. (let z : j ≡ 0 + j = omega arith in subst (λ n. slice_get vars n ≡ Some u) z (get_left (list_of ts) (q.plain ++ q.added) j u c))) in
-      let moved : StringsIn p vars (string_number inner b) (held_by_block inner next is) = subst (λ z. StringsIn p vars (length z.objects + length b.strings) (held_by_block inner next is)) (sym (params_whole (parameters_of d) ts (inside env) 0)) s in
+      let moved : StringsIn p vars (string_number inner b) (held_by_block inner next is) = subst (λ z. StringsIn p vars (length z.objects + length b.strings) (held_by_block inner next is)) (sym (params_keep (λ e. e.whole) (λ _ _ _. refl) (parameters_of d) ts (inside env) 0)) s in
       let around : Around = record { breaks = false; continues = false; returns = t } in
       let h : StmtsRight p vars inner around next (names_of_block is) q = held (StmtsRight p vars inner around next (names_of_block is)) (items_of_block inner around b next is) q (block_right p vars is inner around b next l moved) e in
       let start : next.added ≡ k + length q.plain = plain_alone (names_of_block is) k 0 next.added ∙ ap (λ n. n.plain) h.numbers in
@@ -154,7 +137,7 @@ module _ (p : Program) (last : Env) (table : IsTable p last) where
       (let z : next.added + j ≡ length (list_of ts) + (length q.plain + j) = omega (arith, start, fit) in
       ap (slice_get vars) z ∙ (get_right (list_of ts) (q.plain ++ q.added) (length q.plain + j) ∙ (get_right q.plain q.added j ∙ c)))) in
       let r = h.right w2 (lies, lies_added) in
-      let same : layout_of inner ≡ layout_of env = params_layout (parameters_of d) ts (inside env) 0 in
+      let same : layout_of inner ≡ layout_of env = params_keep layout_of (λ _ _ _. refl) (parameters_of d) ts (inside env) 0 in
       let scalars : All IsScalar (list_of ts) = all_scalars (layout_of env) ts m.3 in
       let known : All (IsComplete (layout_of env)) vars =
       All-append (IsComplete (layout_of env)) (list_of ts) (q.plain ++ q.added) (λ i c z. scalar_complete (layout_of env) _ (scalars i c z))
