@@ -57,33 +57,19 @@ defines_both a b c xs ys f g h k = record {
 
 -- ## Parts that define no function
 
+-- where nothing is defined, what is defined behind it was so before
+pub nothing_new : (old new : Env) → ((x : Name) → IsDefined new.names x → IsDefined old.names x) → ((x : Name) → is_among old.functions x ≡ true → is_among new.functions x ≡ true) → (length old.functions ≤ 4098 → length new.functions ≤ 4098) → Defines old new []
+nothing_new old new f g h = record { fresh = tt; differ = tt; defined = tt; only = λ x d. inl (f x d); listed = g; own = tt; few = h; apart = tt }
+
+no_other : (A : Type 0) (x : Name) → A ⊎ (is_among [] x ≡ true) → A
+no_other A x (inl a) = a
+no_other A x (inr e) = absurd (let q : false ≡ true = e in cc)
+
 pub nothing_both : (a b c : Env) → Defines a b [] → Defines b c [] → Defines a c []
-nothing_both a b c h k = record {
-  fresh = tt;
-  differ = tt;
-  defined = tt;
-  only = λ x d. first x (k.only x d);
-  listed = λ x e. k.listed x (h.listed x e);
-  own = tt;
-  few = λ l. k.few (h.few l);
-  apart = tt;
-}
-  where
-    first : (x : Name) → IsDefined b.names x ⊎ (is_among [] x ≡ true) → IsDefined a.names x ⊎ (is_among [] x ≡ true)
-    first x (inl d) = h.only x d
-    first x (inr e) = inr e
+nothing_both a b c h k = nothing_new a c (λ x d. no_other (IsDefined a.names x) x (h.only x (no_other (IsDefined b.names x) x (k.only x d)))) (λ x e. k.listed x (h.listed x e)) (λ l. k.few (h.few l))
 
 pub nothing_same : (old new : Env) → new.names ≡ old.names → new.functions ≡ old.functions → Defines old new []
-nothing_same old new e f = record {
-  fresh = tt;
-  differ = tt;
-  defined = tt;
-  only = λ x d. inl (subst (λ ns. IsDefined ns x) e d);
-  listed = λ x h. subst (λ fs. is_among fs x ≡ true) (sym f) h;
-  own = tt;
-  few = λ l. subst (λ fs. length fs ≤ 4098) (sym f) l;
-  apart = tt;
-}
+nothing_same old new e f = nothing_new old new (λ x d. subst (λ ns. IsDefined ns x) e d) (λ x h. subst (λ fs. is_among fs x ≡ true) (sym f) h) (λ l. subst (λ fs. length fs ≤ 4098) (sym f) l)
 
 -- the newest declaration of a name, or an older one
 pub newest_or_older : (b : Bool) (new : Binding) (o : Option Binding) (found : Binding) → cond b (Some new) o ≡ Some found → ((b ≡ true) × (found ≡ new)) ⊎ (o ≡ Some found)
@@ -103,17 +89,8 @@ pub unknown_no_function : (f : Fault) (fs : List Fault) → IsNoFunction (unknow
 unknown_no_function f fs t d q = cc
 
 pub nothing_named : (env : Env) (x : Name) (m : Meaning) → IsNoFunction m → Defines env (with_name env x m) []
-nothing_named env x m n = record {
-  fresh = tt;
-  differ = tt;
-  defined = tt;
-  only = λ y d. older y d (newest_or_older (bytes_eq x y) (record { name = x; depth = env.depth; means = m }) (lookup env.names y) d.0 d.2);
-  listed = λ y e. e;
-  own = tt;
-  few = λ l. l;
-  apart = tt;
-}
+nothing_named env x m n = nothing_new env (with_name env x m) (λ y d. older y d (newest_or_older (bytes_eq x y) (record { name = x; depth = env.depth; means = m }) (lookup env.names y) d.0 d.2)) (λ y e. e) (λ l. l)
   where
-    older : (y : Name) (d : IsDefined (with_name env x m).names y) → ((bytes_eq x y ≡ true) × (d.0 ≡ record { name = x; depth = env.depth; means = m })) ⊎ (lookup env.names y ≡ Some d.0) → IsDefined env.names y ⊎ (is_among [] y ≡ true)
+    older : (y : Name) (d : IsDefined (with_name env x m).names y) → ((bytes_eq x y ≡ true) × (d.0 ≡ record { name = x; depth = env.depth; means = m })) ⊎ (lookup env.names y ≡ Some d.0) → IsDefined env.names y
     older y d (inl h) = absurd (n d.1 true (sym (ap (λ b. b.means) h.1) ∙ d.3))
-    older y d (inr e) = inl (d.0, d.1, e, d.3)
+    older y d (inr e) = (d.0, d.1, e, d.3)

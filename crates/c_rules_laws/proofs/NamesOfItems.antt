@@ -1,5 +1,5 @@
 -- Which functions the items of a unit that is fine define.
-use Rattle.std.proofs.Common.{◌≡◌, ◌⊎◌, inl, inr, ℕ, ◌≤◌, ℤ, pos, Bool, true, false, not, ◌&&◌, if◌then◌else◌, cond, List, [], ◌∷◌, Option, Some, None, nat_eq, refl, ap, sym, subst, ◌∙◌, arith}
+use Rattle.std.proofs.Common.{◌≡◌, ◌⊎◌, inl, inr, ℕ, ◌≤◌, ℤ, pos, Bool, true, false, not, ◌&&◌, if◌then◌else◌, cond, List, [], ◌∷◌, Option, Some, None, nat_eq, refl, ap, sym, subst, ◌∙◌, arith, ◌++◌}
 use Rattle.std.specs.Prelude.{is_some, bytes_eq}
 use Rattle.std.specs.Cmp.{nat_eq_equiv}
 use Rattle.std.proofs.lemmas.Slice.Eq.{bytes_eq-Decides}
@@ -11,28 +11,31 @@ use Rattle.c_rules.specs.Checked.{Checked, fine, faulty, on, both, Met}
 use Rattle.c_rules.specs.Limits.{most_functions}
 use Rattle.c_rules.specs.Names.{Name, is_among, number_among, given_names}
 use Rattle.c_rules.specs.Types.{same_type}
-use Rattle.c_rules.specs.Scopes.{Env, Binding, Meaning, a_static, a_function, an_enumerator, lookup, at_depth, declared_here, with_struct, meaning_or_unknown, Before}
+use Rattle.c_rules.specs.Scopes.{Env, Binding, Meaning, a_static, a_function, an_enumerator, lookup, at_depth, declared_here, with_struct, meaning_or_unknown, Before, Struct}
 use Rattle.c_rules.specs.Declarators.{name_of, place_or, new_name}
 use Rattle.c_rules.specs.Expressions.{type_declared}
-use Rattle.c_rules.specs.Objects.{Object}
-use Rattle.c_rules.specs.Variables.{name_or_empty}
-use Rattle.c_rules.specs.Functions.{declares_function, given_as, is_as_given, may_follow_function, is_defined_by, behind_function, function_declared, items_of_body, defined_as}
-use Rattle.c_rules.specs.Items.{Output, no_output, with_output, without_init, output_of_function, defines, struct_definition, struct_or_unknown, enumerator_value, one_more_than, enumerator_meaning, behind_enumerator, behind_enumerators, behind_enum_tag, global_declared, meaning_of_global, declared_part, named_part, behind_declared, behind_named_part, behind_file_part, after_file_part, file_parts, behind_file_parts, behind_defined, function_named, behind_function_named, item, behind_by_form, with_tags, behind_item, after_item, items, behind_items}
-use Rattle.c_rules.specs.Units.{functions_of_item, functions_of}
-use Rattle.c_rules_laws.specs.Lexical.{IsUnitLexical}
-use Rattle.c_rules_laws.proofs.Holding.{held, first_fine, and_right}
+use Rattle.c_rules.specs.Objects.{Object, object_declared}
+use Rattle.c_rules.specs.Variables.{name_or_empty, calls_of_block}
+use Rattle.c_rules.specs.Functions.{declares_function, given_as, is_as_given, may_follow_function, is_defined_by, behind_function, function_declared, items_of_body, defined_as, held_by_typed}
+use Rattle.c_rules.specs.Items.{Output, no_output, with_output, without_init, output_of_function, defines, struct_definition, struct_or_unknown, enumerator_value, one_more_than, enumerator_meaning, behind_enumerator, behind_enumerators, behind_enum_tag, global_declared, meaning_of_global, declared_part, named_part, behind_declared, behind_named_part, behind_file_part, after_file_part, file_parts, behind_file_parts, behind_defined, function_named, behind_function_named, item, behind_by_form, with_tags, behind_item, after_item, items, behind_items, global, within_global, definition_of, after_declared, after_global, after_file_parts, after_items, new_enum, enumerators, tag_declaration, behind_global}
+use Rattle.c_rules.specs.Units.{functions_of_item, functions_of, objects_of_parts, objects_of_item, objects_of}
+use Rattle.c_rules_laws.specs.Lexical.{IsUnitLexical, IsNamed, IsMaybeInitLexical, ArePartsLexical, IsStmtLexical, IsItemLexical}
+use Rattle.c_rules_laws.proofs.Holding.{held, first_fine, and_right, on_fine}
 use Rattle.c_rules_laws.proofs.FileScopes.{IsFileRight, follows_on}
-use Rattle.c_rules_laws.proofs.FileItems.{IsFunctionDeclared, function_declared_right, form_step, tags_step, items_step}
+use Rattle.c_rules_laws.proofs.FileItems.{IsFunctionDeclared, function_declared_right, form_step, tags_step, items_step, Step, step_self, step_on, IsObjectNamed, object_named, part_step, definition_step, object_declared_same, here_is}
 use Rattle.c_rules_laws.proofs.DistinctNames.{itself, among_first, new_kept, new_there, new_few}
-use Rattle.c_rules_laws.proofs.DefinedNames.{IsDefined, Defines, defines_both, nothing_both, nothing_same, newest_or_older, IsNoFunction, static_no_function, enumerator_no_function, unknown_no_function, nothing_named}
+use Rattle.c_rules_laws.proofs.DefinedNames.{IsDefined, Defines, defines_both, nothing_both, nothing_same, newest_or_older, IsNoFunction, static_no_function, enumerator_no_function, unknown_no_function, nothing_named, nothing_new}
+use Rattle.c_rules.specs.Tags.{tags_of_enumerators}
+use Rattle.dm_base.specs.Name.{IsName}
+use Rattle.c_rules.specs.Counts.{past}
+use Rattle.c_rules.proofs.NothingMore.{nothing_more}
 
 -- ## Enumerators and objects
 
 enumerator_means : (n : Checked Met) (r : Checked ℤ) → IsNoFunction (meaning_or_unknown (both n r (λ _ z. fine (an_enumerator z))))
 enumerator_means (fine a) (fine z) = enumerator_no_function z
 enumerator_means (fine a) (faulty f fs) = unknown_no_function f fs
-enumerator_means (faulty f fs) (fine z) = unknown_no_function f _
-enumerator_means (faulty f fs) (faulty g gs) = unknown_no_function f _
+enumerator_means (faulty f fs) r = unknown_no_function f _
 
 enumerators_define : (es : Enumerators) (env : Env) (before : Checked ℤ) → Defines env (behind_enumerators env before es) []
 enumerators_define no_enumerators env before = nothing_same env env refl refl
@@ -80,34 +83,21 @@ module _ (env : Env) (x : Ident) (r : Checked Meaning) (m : Meaning) (e : r ≡ 
   new = record { name = x.name; depth = env.depth; means = meaning_or_unknown r }
 
   prototype_defines : IsFunctionDeclared env false x m → Defines env (behind_function env x.name r) []
-  prototype_defines h = record {
-    fresh = tt;
-    differ = tt;
-    defined = tt;
-    only = λ y d. older y d (newest_or_older (bytes_eq x.name y) new (lookup env.names y) d.0 d.2);
-    listed = λ y k. new_kept env.functions x.name y k;
-    own = tt;
-    few = λ l. new_few env.functions x.name (most_functions env.whole.mode) 4098 (most_within env.whole.mode) l h.named.few;
-    apart = tt;
-  }
+  prototype_defines h =
+      nothing_new env (behind_function env x.name r) (λ y d. older y d (newest_or_older (bytes_eq x.name y) new (lookup env.names y) d.0 d.2)) (λ y k. new_kept env.functions x.name y k)
+      (λ l. new_few env.functions x.name (most_functions env.whole.mode) 4098 (most_within env.whole.mode) l h.named.few)
     where
-      older : (y : Name) (d : IsDefined (behind_function env x.name r).names y) → ((bytes_eq x.name y ≡ true) × (d.0 ≡ new)) ⊎ (lookup env.names y ≡ Some d.0) → IsDefined env.names y ⊎ (is_among [] y ≡ true)
+      older : (y : Name) (d : IsDefined (behind_function env x.name r).names y) → ((bytes_eq x.name y ≡ true) × (d.0 ≡ new)) ⊎ (lookup env.names y ≡ Some d.0) → IsDefined env.names y
       older y d (inl q) =
           let means : meaning_or_unknown r ≡ a_function d.1 true = sym (ap (λ b. b.means) q.1) ∙ d.3 in
           let same : a_function h.type (is_defined_by false (declared_here env x.name)) ≡ a_function d.1 true = sym (ap meaning_or_unknown e ∙ h.named.is) ∙ means in
-          inl (subst (IsDefined env.names) ((bytes_eq-Decides x.name y).0 q.0) (defined_before env x.name h.type h.named.follows (defined_flag h.type d.1 (is_defined_by false (declared_here env x.name)) same)))
-      older y d (inr q) = inl (d.0, d.1, q, d.3)
+          subst (IsDefined env.names) ((bytes_eq-Decides x.name y).0 q.0) (defined_before env x.name h.type h.named.follows (defined_flag h.type d.1 (is_defined_by false (declared_here env x.name)) same))
+      older y d (inr q) = (d.0, d.1, q, d.3)
 
 -- a definition
 pub defined_true : (o : Option Meaning) → is_defined_by true o ≡ true
-defined_true None = refl
 defined_true (Some (a_static s t d)) = refl
-defined_true (Some m) = refl
-
-here_is : (env : Env) → IsFileRight env → (x : Name) (b : Binding) → lookup env.names x ≡ Some b → declared_here env x ≡ Some b.means
-here_is env w x b e =
-    let d : b.depth ≡ env.depth = w.shallow_names x b e ∙ sym w.shallow in
-    ap (at_depth env.depth) e ∙ ap (λ t. if t then Some b.means else None) (ap (λ k. nat_eq k env.depth) d ∙ nat_eq_equiv.refl env.depth)
+defined_true o = refl
 
 -- it was not defined before
 not_before : (env : Env) → IsFileRight env → (x : Name) (t : CType) → may_follow_function true t (declared_here env x) ≡ true → IsDefined env.names x → ⊥
@@ -153,56 +143,110 @@ module _ (env : Env) (w : IsFileRight env) (x : Ident) (r : Checked Meaning) (m 
 
 -- ## Items
 
-part_defines : (env : Env) (b : Before) (at : ℕ) (class : Storage) (s : Spec) (d : Declarator) (m : MaybeInit) (o : Option Ident) (p : Output) → named_part env b at class s d m o ≡ fine p → Defines env (behind_named_part env b at class s d m o) []
-part_defines env b at class s d m None p e = absurd (cc)
-part_defines env b at class s d m (Some x) p e = by_kind (declares_function d) refl e
-  where
-    by_kind : (k : Bool) → declares_function d ≡ k → declared_part env b at class s d m k x ≡ fine p → Defines env (behind_declared env b at class s d m k x) []
-    by_kind true q e =
-        let r : Checked Meaning = function_declared env false at s d x in
-        let f = first_fine r (without_init m) (λ _ _. fine no_output) p e in
-        prototype_defines env x r f.0 f.2 (held (IsFunctionDeclared env false x) r f.0 (function_declared_right env false x at s d q) f.2)
-    by_kind false q e =
-        let r : Checked Object = global_declared env (defines class m) b at s d x m in
-        nothing_named env x.name (meaning_or_unknown (meaning_of_global env (defines class m) x r)) (object_means env (defines class m) x r)
+-- What items that are fine give, part by part: the scopes before and behind them, what stands before and behind them, what they give, and the
+-- names of the functions and of the objects that they define.
+pub data Gives : Env → Before → Env → Before → Output → List Name → List Name → Type 0 where
+  starts : {env : Env} {b : Before} → IsFileRight env → Gives env b env b no_output [] []
+  declares : {env middle inner : Env} {b a : Before} {q : Output} {xs ys : List Name} → Gives env b middle a q xs ys → Step middle inner → Defines middle inner [] → Gives env b inner a q xs ys
+  an_object : {env : Env} {b : Before} {q : Output} (x : Ident) (m : MaybeInit) (r : Checked Object) (o : Object) → IsFileRight env → IsMaybeInitLexical m → r ≡ fine o → IsObjectNamed env true b x o → global env true b x m r ≡ fine q → Step env (behind_global env true x r)
+      → Gives env b (behind_global env true x r) (after_global env b m (fine o)) q [] (x.name ∷ [])
+  a_definition : {env : Env} {b : Before} {q : Output} (at : ℕ) (s : Spec) (d : Declarator) (body : Stmt) (x : Ident) → IsFileRight env → IsName x.name → IsStmtLexical body → declares_function d ≡ true → function_named env b at s d body true (Some x) ≡ fine q → Step env (behind_defined env at s d x)
+      → Gives env b (behind_defined env at s d x) (past b (calls_of_block (items_of_body body)) (held_by_typed (behind_defined env at s d x) d (items_of_body body) (type_declared env at s d))) q (x.name ∷ []) []
+  one_and_more : {env middle inner : Env} {b c a : Before} {q r : Output} {xs ys zs ws : List Name} → Gives env b middle c q xs ys → Gives middle c inner a r zs ws → Gives env b inner a (with_output q r) (xs ++ zs) (ys ++ ws)
 
-parts_define : (ps : Parts) (env : Env) (b : Before) (at : ℕ) (class : Storage) (s : Spec) (p : Output) → file_parts env b at class s ps ≡ fine p → Defines env (behind_file_parts env b at class s ps) []
-parts_define no_parts env b at class s p e = nothing_same env env refl refl
-parts_define (more_parts d m ps) env b at class s p e =
+pub gives_step : {env inner : Env} {b a : Before} {q : Output} {xs ys : List Name} → Gives env b inner a q xs ys → Step env inner
+gives_step (starts {env = e} w) = step_self e w
+gives_step {env} {inner} (declares {middle = c} h s d) = step_on env c inner (gives_step h) s
+gives_step (an_object x m r o w l e n f s) = s
+gives_step (a_definition at s d body x w n l k e t) = t
+gives_step {env} {inner} (one_and_more {middle = c} h k) = step_on env c inner (gives_step h) (gives_step k)
+
+pub output_same : (p q : Output) → fine p ≡ fine q → p ≡ q
+output_same p q e = cc
+
+-- a declaration that gives nothing
+nothing_given : (env inner : Env) (b : Before) (q : Output) → IsFileRight env → Step env inner → Defines env inner [] → fine no_output ≡ fine q → Gives env b inner b q [] []
+nothing_given env inner b q w s d e = subst (λ q. Gives env b inner b q [] []) (output_same no_output q e) (declares (starts w) s d)
+
+part_gives : (env : Env) → IsFileRight env → (b : Before) (at : ℕ) (class : Storage) (s : Spec) (d : Declarator) (m : MaybeInit) (o : Option Ident) (q : Output) → IsMaybeInitLexical m → named_part env b at class s d m o ≡ fine q
+    → Gives env b (behind_named_part env b at class s d m o) (after_declared env b at s d m (not (declares_function d) && defines class m) o) q [] (if not (declares_function d) && defines class m then name_or_empty o ∷ [] else [])
+part_gives env w b at class s d m None q l e = absurd (cc)
+part_gives env w b at class s d m (Some x) q l e = by_kind (declares_function d) (defines class m) refl refl e (part_step env b at class s d m (Some x) q w e)
+  where
+    r : Checked Object
+    r = global_declared env (defines class m) b at s d x m
+
+    by_object : (k : Bool) → defines class m ≡ k → global env k b x m r ≡ fine q → Step env (behind_global env k x r) → Gives env b (behind_global env k x r) (after_declared env b at s d m k (Some x)) q [] (if k then x.name ∷ [] else [])
+    by_object false n e z = (let i = on_fine r (λ _. fine no_output) q e in nothing_given env (behind_global env false x r) b q w z (nothing_named env x.name (meaning_or_unknown (meaning_of_global env false x r)) (object_means env false x r)) i.2)
+    by_object true n e z =
+        let i = on_fine r (definition_of (within_global env true x r) b m) q e in
+        let named : IsObjectNamed env (defines class m) b x i.0 = held (IsObjectNamed env (defines class m) b x) r i.0 (object_named env (defines class m) b at s d x m) i.1 in
+        let o : object_declared env at s d x m ≡ fine i.0 = object_declared_same env (defines class m) b at s d x m i.0 i.1 in
+        subst (λ y. Gives env b (behind_global env true x r) (after_global env b m y) q [] (x.name ∷ [])) (sym o) (an_object x m r i.0 w l i.1 (subst (λ k. IsObjectNamed env k b x i.0) n named) e z)
+
+    by_kind : (f k : Bool) → declares_function d ≡ f → defines class m ≡ k → declared_part env b at class s d m f x ≡ fine q → Step env (behind_declared env b at class s d m f x) → Gives env b (behind_declared env b at class s d m f x) (after_declared env b at s d m (not f && k) (Some x)) q [] (if not f && k then x.name ∷ [] else [])
+    by_kind true k g n e z =
+        let t : Checked Meaning = function_declared env false at s d x in
+        let i = first_fine t (without_init m) (λ _ _. fine no_output) q e in
+        nothing_given env (behind_function env x.name t) b q w z (prototype_defines env x t i.0 i.2 (held (IsFunctionDeclared env false x) t i.0 (function_declared_right env false x at s d g) i.2)) i.4
+    by_kind false k g n e z =
+        subst (λ y. Gives env b (behind_global env y x r) (after_declared env b at s d m k (Some x)) q [] (if k then x.name ∷ [] else [])) (sym n)
+        (by_object k n (subst (λ y. global env y b x m r ≡ fine q) n e) (subst (λ y. Step env (behind_global env y x r)) n z))
+
+names_joined : (k : Bool) (x : Name) (xs : List Name) → (if k then x ∷ [] else []) ++ xs ≡ (if k then x ∷ xs else xs)
+names_joined true x xs = refl
+names_joined false x xs = refl
+
+parts_give : (ps : Parts) (env : Env) → IsFileRight env → (b : Before) (at : ℕ) (class : Storage) (s : Spec) (q : Output) → ArePartsLexical ps → file_parts env b at class s ps ≡ fine q → Gives env b (behind_file_parts env b at class s ps) (after_file_parts env b at class s ps) q [] (objects_of_parts class ps)
+parts_give no_parts env w b at class s q l e = nothing_given env env b q w (step_self env w) (nothing_same env env refl refl) e
+parts_give (more_parts d m ps) env w b at class s q l e =
     let inner : Env = behind_file_part env b at class s d m in
     let after : Before = after_file_part env b at class s d m in
-    let f = first_fine (named_part env b at class s d m (name_of d)) (file_parts inner after at class s ps) (λ p q. fine (with_output p q)) p e in
-    nothing_both env inner (behind_file_parts inner after at class s ps) (part_defines env b at class s d m (name_of d) f.0 f.2) (parts_define ps inner after at class s f.1 f.3)
+    let i = first_fine (named_part env b at class s d m (name_of d)) (file_parts inner after at class s ps) (λ p q. fine (with_output p q)) q e in
+    let h = part_gives env w b at class s d m (name_of d) i.0 l.0 i.2 in
+    subst (λ ys. Gives env b (behind_file_parts inner after at class s ps) (after_file_parts inner after at class s ps) q [] ys) (names_joined (not (declares_function d) && defines class m) (name_or_empty (name_of d)) (objects_of_parts class ps))
+    (subst (λ p. Gives env b (behind_file_parts inner after at class s ps) (after_file_parts inner after at class s ps) p [] ((if not (declares_function d) && defines class m then name_or_empty (name_of d) ∷ [] else []) ++ objects_of_parts class ps)) (output_same (with_output i.0 i.1) q i.4)
+    (one_and_more h (parts_give ps inner (gives_step h).0 after at class s i.1 l.1 i.3)))
 
-function_defines : (env : Env) → IsFileRight env → (b : Before) (at : ℕ) (s : Spec) (d : Declarator) (body : Stmt) (o : Option Ident) (p : Output) (k : Bool) → declares_function d ≡ k → function_named env b at s d body k o ≡ fine p → Defines env (behind_function_named env at s d o) (name_or_empty o ∷ [])
-function_defines env w b at s d body o p false q e = absurd (cc)
-function_defines env w b at s d body None p true q e = absurd (cc)
-function_defines env w b at s d body (Some x) p true q e =
-    let r : Checked Meaning = function_declared env true at s d x in
-    let f = first_fine r (on (type_declared env at s d) (defined_as (behind_defined env at s d x) b (place_or at d) d x (items_of_body body))) (λ _ f. fine (output_of_function f)) p e in
-    definition_defines env w x r f.0 f.2 (held (IsFunctionDeclared env true x) r f.0 (function_declared_right env true x at s d q) f.2)
+definition_gives : (env : Env) → IsFileRight env → (b : Before) (at : ℕ) (s : Spec) (d : Declarator) (body : Stmt) (o : Option Ident) (q : Output) (k : Bool) → declares_function d ≡ k → IsNamed o → IsStmtLexical body → function_named env b at s d body k o ≡ fine q
+    → Gives env b (behind_function_named env at s d o) (past b (calls_of_block (items_of_body body)) (held_by_typed (behind_function_named env at s d o) d (items_of_body body) (type_declared env at s d))) q (name_or_empty o ∷ []) []
+definition_gives env w b at s d body (Some x) q true k n l e = a_definition at s d body x w n l k e (definition_step env b at s d body (Some x) q true k w e)
+definition_gives env w b at s d body o q false k n l e = absurd (cc)
+definition_gives env w b at s d body None q true k n l e = absurd (cc)
 
-form_defines : (i : Item) (env : Env) → IsFileRight env → (b : Before) (p : Output) → item env b i ≡ fine p → Defines env (behind_by_form env b i) (functions_of_item i)
-form_defines (struct_item at x ms) env w b p e = nothing_same env (with_struct env x.name (struct_or_unknown (struct_definition env x ms))) refl refl
-form_defines (enum_item at x es) env w b p e =
+form_gives : (i : Item) (env : Env) → IsFileRight env → (b : Before) (q : Output) → IsItemLexical i → item env b i ≡ fine q → Gives env b (behind_by_form env b i) (after_item env b i) q (functions_of_item i) (objects_of_item i)
+form_gives (struct_item at x ms) env w b q l e =
+    let t : Checked Struct = struct_definition env x ms in
+    let i = on_fine t (λ _. fine no_output) q e in
+    let inner : Env = with_struct env x.name (struct_or_unknown t) in
+    nothing_given env inner b q w (form_step (struct_item at x ms) env b q w l e) (nothing_same env inner refl refl) i.2
+form_gives (enum_item at x es) env w b q l e =
+    let i = first_fine (new_enum env x (tags_of_enumerators es)) (enumerators env (fine (pos 0)) es) (λ _ _. fine no_output) q e in
     let inner : Env = behind_enumerators env (fine (pos 0)) es in
-    nothing_both env inner (behind_enum_tag inner x) (enumerators_define es env (fine (pos 0))) (tag_defines inner x)
-form_defines (tag_item at x) env w b p e = nothing_same env env refl refl
-form_defines (decl_item at (decl here class s ps)) env w b p e = parts_define ps env b here class s p e
-form_defines (function_item at class s d body) env w b p e = function_defines env w b at s d body (name_of d) p (declares_function d) refl e
+    nothing_given env (behind_enum_tag inner x) b q w (form_step (enum_item at x es) env b q w l e) (nothing_both env inner (behind_enum_tag inner x) (enumerators_define es env (fine (pos 0))) (tag_defines inner x)) i.4
+form_gives (tag_item at x) env w b q l e = (let i = on_fine (tag_declaration env x) (λ _. fine no_output) q e in nothing_given env env b q w (step_self env w) (nothing_same env env refl refl) i.2)
+form_gives (decl_item at (decl here class s ps)) env w b q l e = parts_give ps env w b here class s q l e
+form_gives (function_item at class s d body) env w b q l e = definition_gives env w b at s d body (name_of d) q (declares_function d) refl l.0 l.1 e
 
-tags_define : (old env : Env) (i : Item) (xs : List Name) → Defines old env xs → Defines old (with_tags env i) xs
-tags_define old env i xs h = record { fresh = h.fresh; differ = h.differ; defined = h.defined; only = h.only; listed = h.listed; own = h.own; few = h.few; apart = h.apart }
-
-pub items_define : (is : Items) (env : Env) → IsFileRight env → (b : Before) (p : Output) → IsUnitLexical is → items env b is ≡ fine p → Defines env (behind_items env b is) (functions_of is)
-items_define no_items env w b p l e = nothing_same env env refl refl
-items_define (more_items i is) env w b p l e =
+pub items_give : (is : Items) (env : Env) → IsFileRight env → (b : Before) (q : Output) → IsUnitLexical is → items env b is ≡ fine q → Gives env b (behind_items env b is) (after_items env b is) q (functions_of is) (objects_of is)
+items_give no_items env w b q l e = nothing_given env env b q w (step_self env w) (nothing_same env env refl refl) e
+items_give (more_items i is) env w b q l e =
     let middle : Env = behind_by_form env b i in
     let inner : Env = behind_item env b i in
     let after : Before = after_item env b i in
-    let f = first_fine (item env b i) (items inner after is) (λ p q. fine (with_output p q)) p e in
-    let form = form_step i env b f.0 w l.0 f.2 in
-    let tags = tags_step middle i form.0 in
-    let rest = items_step is inner after f.1 tags.0 l.1 f.3 in
-    defines_both env inner (behind_items inner after is) (functions_of_item i) (functions_of is) (follows_on env middle inner form.1 tags.1) rest.1
-    (tags_define env middle i (functions_of_item i) (form_defines i env w b f.0 f.2)) (items_define is inner tags.0 after f.1 l.1 f.3)
+    let f = first_fine (item env b i) (items inner after is) (λ p q. fine (with_output p q)) q e in
+    let h = form_gives i env w b f.0 l.0 f.2 in
+    let tags = tags_step middle i (gives_step h).0 in
+    subst (λ p. Gives env b (behind_items inner after is) (after_items inner after is) p (functions_of_item i ++ functions_of is) (objects_of_item i ++ objects_of is)) (output_same (with_output f.0 f.1) q f.4)
+    (one_and_more (declares h tags (nothing_same middle inner refl refl)) (items_give is inner tags.0 after f.1 l.1 f.3))
+
+-- the functions that they define
+pub gives_defined : {env inner : Env} {b a : Before} {q : Output} {xs ys : List Name} → Gives env b inner a q xs ys → Defines env inner xs
+gives_defined (starts {env = e} w) = nothing_same e e refl refl
+gives_defined {env} {inner} {xs = xs} (declares {middle = c} h s d) = subst (Defines env inner) (nothing_more xs) (defines_both env c inner xs [] (gives_step h).1 s.1 (gives_defined h) d)
+gives_defined {env} (an_object x m r o w l e n f s) = nothing_named env x.name (meaning_or_unknown (meaning_of_global env true x r)) (object_means env true x r)
+gives_defined {env} (a_definition at s d body x w n l k e t) =
+    let r : Checked Meaning = function_declared env true at s d x in
+    let f = first_fine r (on (type_declared env at s d) (defined_as (behind_defined env at s d x) _ (place_or at d) d x (items_of_body body))) (λ _ f. fine (output_of_function f)) _ e in
+    definition_defines env w x r f.0 f.2 (held (IsFunctionDeclared env true x) r f.0 (function_declared_right env true x at s d k) f.2)
+gives_defined {env} {inner} (one_and_more {middle = c} {xs = xs} {zs = zs} h k) = defines_both env c inner xs zs (gives_step h).1 (gives_step k).1 (gives_defined h) (gives_defined k)

@@ -25,12 +25,13 @@ use Rattle.c_rules_laws.proofs.Definitions.{definition_fine}
 use Rattle.c_rules_laws.proofs.SizeBounds.{has_cell}
 use Rattle.c_rules_laws.proofs.SitesOfExpressions.{AreShort, FitsAt, Span, range_append}
 use Rattle.c_rules_laws.proofs.RightInitialisers.{AllKnown, known_sites, InitCounted, static_counted}
-use Rattle.c_rules_laws.proofs.SitesOfStatements.{IsSpan, StmtsSpan, held_by_named_same, block_span}
+use Rattle.c_rules_laws.proofs.SitesOfStatements.{IsSpan, StmtsSpan, held_by_named_same, block_span, params_keep}
 use Rattle.c_rules_laws.proofs.FileScopes.{IsFileRight}
 use Rattle.c_rules_laws.proofs.FileItems.{IsObjectNamed, object_named, part_step, form_step, tags_step, object_declared_same}
-use Rattle.c_rules_laws.proofs.UnitShape.{output_same}
+use Rattle.c_rules_laws.proofs.NamesOfItems.{Gives, starts, declares, an_object, a_definition, one_and_more, items_give, output_same}
 use Rattle.c_rules_laws.proofs.KnownCells.{static_known}
 use Rattle.c_rules.proofs.NothingMore.{nothing_more}
+use Rattle.c_rules.specs.Names.{Name}
 
 -- what stands before a part, what stands behind it, and what it gives
 pub record Spans (b a : Before) (q : Output) : Type 0 where
@@ -56,9 +57,6 @@ spans_none b = record {
   cells_fit = λ l. l;
   many = omega arith;
 }
-
-no_spans : (b : Before) (q : Output) → fine no_output ≡ fine q → Spans b b q
-no_spans b q e = subst (Spans b b) (output_same no_output q e) (spans_none b)
 
 functions_sites : (fs gs : List Function) → flat_map sites_of_function (fs ++ gs) ≡ flat_map sites_of_function fs ++ flat_map sites_of_function gs
 functions_sites [] gs = refl
@@ -117,42 +115,10 @@ object_span env w b x m r o q e h f =
       many = omega (arith, some, many);
     })
 
-part_span : (env : Env) → IsFileRight env → (b : Before) (at : ℕ) (class : Storage) (s : Spec) (d : Declarator) (m : MaybeInit) (o : Option Ident) (q : Output) → named_part env b at class s d m o ≡ fine q → Spans b (after_declared env b at s d m (not (declares_function d) && defines class m) o) q
-part_span env w b at class s d m None q e = absurd (cc)
-part_span env w b at class s d m (Some x) q e = by_kind (declares_function d) (defines class m) refl e
-  where
-    by_object : (k : Bool) → defines class m ≡ k → global env k b x m (global_declared env (defines class m) b at s d x m) ≡ fine q → Spans b (after_declared env b at s d m k (Some x)) q
-    by_object false n e = (let i = on_fine (global_declared env (defines class m) b at s d x m) (λ _. fine no_output) q e in no_spans b q i.2)
-    by_object true n e =
-        let r : Checked Object = global_declared env (defines class m) b at s d x m in
-        let i = on_fine r (definition_of (within_global env true x r) b m) q e in
-        let named : IsObjectNamed env (defines class m) b x i.0 = held (IsObjectNamed env (defines class m) b x) r i.0 (object_named env (defines class m) b at s d x m) i.1 in
-        let o : object_declared env at s d x m ≡ fine i.0 = object_declared_same env (defines class m) b at s d x m i.0 i.1 in
-        subst (λ z. Spans b (after_global env b m z) q) (sym o) (object_span env w b x m r i.0 q i.1 (subst (λ k. IsObjectNamed env k b x i.0) n named) e)
-
-    by_kind : (f k : Bool) → defines class m ≡ k → declared_part env b at class s d m f x ≡ fine q → Spans b (after_declared env b at s d m (not f && k) (Some x)) q
-    by_kind true k n e = (let i = first_fine (function_declared env false at s d x) (without_init m) (λ _ _. fine no_output) q e in no_spans b q i.4)
-    by_kind false k n e = by_object k n (subst (λ z. global env z b x m (global_declared env (defines class m) b at s d x m) ≡ fine q) n e)
-
-parts_span : (ps : Parts) (env : Env) → IsFileRight env → (b : Before) (at : ℕ) (class : Storage) (s : Spec) (q : Output) → file_parts env b at class s ps ≡ fine q → Spans b (after_file_parts env b at class s ps) q
-parts_span no_parts env w b at class s q e = no_spans b q e
-parts_span (more_parts d m ps) env w b at class s q e =
-    let inner : Env = behind_file_part env b at class s d m in
-    let after : Before = after_file_part env b at class s d m in
-    let i = first_fine (named_part env b at class s d m (name_of d)) (file_parts inner after at class s ps) (λ p q. fine (with_output p q)) q e in
-    let step = part_step env b at class s d m (name_of d) i.0 w i.2 in
-    subst (Spans b (after_file_parts inner after at class s ps)) (output_same (with_output i.0 i.1) q i.4)
-    (spans_both b after (after_file_parts inner after at class s ps) i.0 i.1 (part_span env w b at class s d m (name_of d) i.0 i.2) (parts_span ps inner step.0 after at class s i.1 i.3))
-
 -- ## Functions
 
-pub parameter_context : (env : Env) (k : ℕ) (o : Option Ident) (t : CType) → (with_parameter env k o t).context ≡ env.context
-parameter_context env k None t = refl
-parameter_context env k (Some x) t = refl
-
 pub params_context : (ps : Params) (ts : CTypes) (env : Env) (k : ℕ) → (with_parameters env k ps ts).context ≡ env.context
-params_context (more_params at s d ps) (typed.more_types t ts) env k = params_context ps ts (with_parameter env k (name_of d) t) (suc k) ∙ parameter_context env k (name_of d) t
-params_context ps ts env k = refl
+params_context ps ts env k = params_keep (λ e. e.context) (λ _ _ _. refl) ps ts env k
 
 function_span : (env : Env) → env.context ≡ evaluated → (b : Before) (place : ℕ) (d : Declarator) (x : Ident) (is : BlockItems) (u : CType) (f : Function) → defined_as env b place d x is u ≡ fine f → IsSpan b (calls_of_block is) (held_by_type env d is u) (sites_of_function f)
 function_span env c b place d x is (function t ts) f e =
@@ -181,9 +147,9 @@ one_function b n ws f h = record {
   many = (let l = string_many ws in omega (arith, l));
 }
 
-definition_span : (env : Env) → IsFileRight env → (b : Before) (at : ℕ) (s : Spec) (d : Declarator) (body : Stmt) (k : Bool) (o : Option Ident) (q : Output) → function_named env b at s d body k o ≡ fine q
-    → Spans b (past b (calls_of_block (items_of_body body)) (held_by_typed (behind_function_named env at s d o) d (items_of_body body) (type_declared env at s d))) q
-definition_span env w b at s d body true (Some x) q e =
+definition_span : (env : Env) → IsFileRight env → (b : Before) (at : ℕ) (s : Spec) (d : Declarator) (body : Stmt) (x : Ident) (q : Output) → function_named env b at s d body true (Some x) ≡ fine q
+    → Spans b (past b (calls_of_block (items_of_body body)) (held_by_typed (behind_defined env at s d x) d (items_of_body body) (type_declared env at s d))) q
+definition_span env w b at s d body x q e =
     let is : BlockItems = items_of_body body in
     let inner : Env = behind_defined env at s d x in
     let i = first_fine (function_declared env true at s d x) (on (type_declared env at s d) (defined_as inner b (place_or at d) d x is)) (λ _ f. fine (output_of_function f)) q e in
@@ -191,23 +157,15 @@ definition_span env w b at s d body true (Some x) q e =
     let h : IsSpan b (calls_of_block is) (held_by_type inner d is j.0) (sites_of_function i.1) = function_span inner w.runs b (place_or at d) d x is j.0 i.1 j.2 in
     subst (λ r. Spans b (past b (calls_of_block is) (held_by_typed inner d is r)) q) (sym j.1)
     (subst (Spans b (past b (calls_of_block is) (held_by_type inner d is j.0))) (output_same (output_of_function i.1) q i.4) (one_function b (calls_of_block is) (held_by_type inner d is j.0) i.1 h))
-definition_span env w b at s d body k o q e = absurd (cc)
 
 -- ## Items
 
-form_span : (i : Item) (env : Env) → IsFileRight env → (b : Before) (q : Output) → item env b i ≡ fine q → Spans b (after_item env b i) q
-form_span (enum_item at x es) env w b q e = (let i = first_fine _ _ (λ _ _. fine no_output) q e in no_spans b q i.4)
-form_span (decl_item at (decl here class s ps)) env w b q e = parts_span ps env w b here class s q e
-form_span (function_item at class s d body) env w b q e = definition_span env w b at s d body (declares_function d) (name_of d) q e
-form_span i env w b q e = (let i = on_fine _ (λ _. fine no_output) q e in no_spans b q i.2)
+pub gives_spans : {env inner : Env} {b a : Before} {q : Output} {xs ys : List Name} → Gives env b inner a q xs ys → Spans b a q
+gives_spans (starts {b = b} w) = spans_none b
+gives_spans (declares h s d) = gives_spans h
+gives_spans {env} {b = b} {q = q} (an_object x m r o w l e n f s) = object_span env w b x m r o q e n f
+gives_spans {env} {b = b} {q = q} (a_definition at s d body x w n l k e t) = definition_span env w b at s d body x q e
+gives_spans (one_and_more {b = b} {c = c} {a = a} {q = q} {r = r} h k) = spans_both b c a q r (gives_spans h) (gives_spans k)
 
 pub items_span : (is : Items) (env : Env) → IsFileRight env → (b : Before) (q : Output) → IsUnitLexical is → items env b is ≡ fine q → Spans b (after_items env b is) q
-items_span no_items env w b q l e = no_spans b q e
-items_span (more_items i is) env w b q l e =
-    let inner : Env = behind_item env b i in
-    let after : Before = after_item env b i in
-    let f = first_fine (item env b i) (items inner after is) (λ p q. fine (with_output p q)) q e in
-    let form = form_step i env b f.0 w l.0 f.2 in
-    let tags = tags_step (behind_by_form env b i) i form.0 in
-    subst (Spans b (after_items inner after is)) (output_same (with_output f.0 f.1) q f.4)
-    (spans_both b after (after_items inner after is) f.0 f.1 (form_span i env w b f.0 f.2) (items_span is inner tags.0 after f.1 l.1 f.3))
+items_span is env w b q l e = gives_spans (items_give is env w b q l e)

@@ -33,10 +33,13 @@ use Rattle.c_rules_laws.proofs.RightInitialisers.{IsKnownConstant, AllKnown, Typ
 use Rattle.c_rules_laws.proofs.RightDeclarations.{right_named}
 use Rattle.c_rules_laws.proofs.SitesOfStatements.{held_by_named_same}
 use Rattle.c_rules_laws.proofs.FileScopes.{IsFileRight, Follows, follows_on}
-use Rattle.c_rules_laws.proofs.FileItems.{IsObjectNamed, object_named, part_step, parts_step, definition_step, form_step, tags_step, items_step, object_declared_same}
+use Rattle.c_rules_laws.proofs.FileItems.{Step, IsObjectNamed, object_named, part_step, parts_step, definition_step, form_step, tags_step, items_step, object_declared_same}
 use Rattle.c_rules_laws.proofs.UnitScopes.{IsTable, object_at, scope_right}
 use Rattle.c_rules_laws.proofs.UnitFunctions.{ParamsFit, type_fits, function_right}
-use Rattle.c_rules_laws.proofs.UnitShape.{just_declared, output_same}
+use Rattle.c_rules_laws.proofs.UnitShape.{just_declared}
+use Rattle.c_rules_laws.proofs.NamesOfItems.{Gives, starts, declares, an_object, a_definition, one_and_more, gives_step, items_give, output_same}
+use Rattle.c_rules_laws.proofs.Spans.{gives_spans}
+use Rattle.c_rules.specs.Names.{Name}
 
 -- ## Strings
 
@@ -48,9 +51,6 @@ begins_self xs = ([], sym (nothing_more xs))
 
 begins_on : (xs ys zs : List (List ℕ)) → Begins xs ys → Begins ys zs → Begins xs zs
 begins_on xs ys zs h k = (h.0 ++ k.0, k.1 ∙ (ap (λ v. v ++ k.0) h.1 ∙ append_assoc xs h.0 k.0))
-
-begins_more : (xs ys : List (List ℕ)) → Begins xs (xs ++ ys)
-begins_more xs ys = (ys, refl)
 
 get_front : (xs zs : List (List ℕ)) (j : ℕ) (w : List ℕ) → slice_get xs j ≡ Some w → slice_get (xs ++ zs) j ≡ Some w
 get_front xs zs j w e = get_left xs zs j w e
@@ -80,12 +80,11 @@ module _ (p : Program) (last : Env) (table : IsTable p last) (all : List (List �
   body_lexical (syntax.block at is) h = h
   body_lexical body h = (h, tt)
 
-  definition_right : (env : Env) → IsFileRight env → (b : Before) (at : ℕ) (s : Spec) (d : Declarator) (body : Stmt) (k : Bool) (o : Option Ident) (q : Output) → declares_function d ≡ k → IsStmtLexical body → function_named env b at s d body k o ≡ fine q → Follows (behind_function_named env at s d o) last
-      → Begins (b.strings ++ held_by_typed (behind_function_named env at s d o) d (items_of_body body) (type_declared env at s d)) all → IsOutputRight q
-  definition_right env w b at s d body true (Some x) q n l e g h =
+  definition_right : (env : Env) → IsFileRight env → (b : Before) (at : ℕ) (s : Spec) (d : Declarator) (body : Stmt) (x : Ident) (q : Output) → declares_function d ≡ true → IsStmtLexical body → function_named env b at s d body true (Some x) ≡ fine q → Step env (behind_defined env at s d x) → Follows (behind_defined env at s d x) last
+      → Begins (b.strings ++ held_by_typed (behind_defined env at s d x) d (items_of_body body) (type_declared env at s d)) all → IsOutputRight q
+  definition_right env w b at s d body x q n l e step g h =
       let is : BlockItems = items_of_body body in
       let inner : Env = behind_defined env at s d x in
-      let step = definition_step env b at s d body (Some x) q true n w e in
       let i = first_fine (function_declared env true at s d x) (on (type_declared env at s d) (defined_as inner b (place_or at d) d x is)) (λ _ f. fine (output_of_function f)) q e in
       let j = on_fine (type_declared env at s d) (defined_as inner b (place_or at d) d x is) i.1 i.3 in
       let u : CType = j.0 in
@@ -94,7 +93,6 @@ module _ (p : Program) (last : Env) (table : IsTable p last) (all : List (List �
       let strings : StringsIn p [] (string_number inner b) (held_by_type inner d is u) = strings_here inner g b (held_by_type inner d is u) (subst (λ r. Begins (b.strings ++ held_by_typed inner d is r) all) j.1 h) in
       let f = function_right p last table inner step.0 g b (place_or at d) d x is u i.1 made fit (body_lexical body l) strings j.2 in
       subst IsOutputRight (output_same (output_of_function i.1) q i.4) ((f.0, tt), tt)
-  definition_right env w b at s d body k o q n l e g h = absurd (cc)
 
   -- ## Objects
 
@@ -128,87 +126,15 @@ module _ (p : Program) (last : Env) (table : IsTable p last) (all : List (List �
       subst IsOutputRight (output_same (static_of o j.0) q j.2)
       (tt, (record { object = object; typed = cells_zip (flat p.structs o.whole) j.0 (subst (λ ts. TypesAre p [] ts j.0) (sym (same_flat (layout_of env) p.structs w0.within.sound w0.within.grows o.whole h.right.known)) cells.0) cells.1 }, tt))
 
-  no_output_right : (q : Output) → fine no_output ≡ fine q → IsOutputRight q
-  no_output_right q e = subst IsOutputRight (output_same no_output q e) (tt, tt)
-
-  part_right : (env : Env) → IsFileRight env → (b : Before) (at : ℕ) (class : Storage) (s : Spec) (d : Declarator) (m : MaybeInit) (o : Option Ident) (q : Output) → IsMaybeInitLexical m → named_part env b at class s d m o ≡ fine q → Follows env last → Follows (behind_named_part env b at class s d m o) last
-      → IsFileRight (behind_named_part env b at class s d m o) → Begins (after_declared env b at s d m (not (declares_function d) && defines class m) o).strings all → IsOutputRight q
-  part_right env w b at class s d m None q l e g0 g v h = absurd (cc)
-  part_right env w b at class s d m (Some x) q l e g0 g v h = by_kind (declares_function d) (defines class m) refl e g v h
-    where
-      by_object : (k : Bool) → defines class m ≡ k → global env k b x m (global_declared env (defines class m) b at s d x m) ≡ fine q → Follows (behind_global env k x (global_declared env (defines class m) b at s d x m)) last → IsFileRight (behind_global env k x (global_declared env (defines class m) b at s d x m)) → Begins (after_declared env b at s d m k (Some x)).strings all → IsOutputRight q
-      by_object false n e g v h = (let i = on_fine (global_declared env (defines class m) b at s d x m) (λ _. fine no_output) q e in no_output_right q i.2)
-      by_object true n e g v h =
-          let r : Checked Object = global_declared env (defines class m) b at s d x m in
-          let i = on_fine r (definition_of (within_global env true x r) b m) q e in
-          let named : IsObjectNamed env (defines class m) b x i.0 = held (IsObjectNamed env (defines class m) b x) r i.0 (object_named env (defines class m) b at s d x m) i.1 in
-          let o : object_declared env at s d x m ≡ fine i.0 = object_declared_same env (defines class m) b at s d x m i.0 i.1 in
-          global_right env w b x m r q i.0 i.1 (subst (λ k. IsObjectNamed env k b x i.0) n named) v l e g0 g (subst (λ r. Begins (after_global env b m r).strings all) o h)
-
-      by_kind : (f k : Bool) → defines class m ≡ k → declared_part env b at class s d m f x ≡ fine q → Follows (behind_declared env b at class s d m f x) last → IsFileRight (behind_declared env b at class s d m f x) → Begins (after_declared env b at s d m (not f && k) (Some x)).strings all → IsOutputRight q
-      by_kind true k n e g v h = (let i = first_fine (function_declared env false at s d x) (without_init m) (λ _ _. fine no_output) q e in no_output_right q i.4)
-      by_kind false k n e g v h =
-          by_object k n (subst (λ z. global env z b x m (global_declared env (defines class m) b at s d x m) ≡ fine q) n e) (subst (λ z. Follows (behind_global env z x (global_declared env (defines class m) b at s d x m)) last) n g)
-          (subst (λ z. IsFileRight (behind_global env z x (global_declared env (defines class m) b at s d x m))) n v) h
-
   -- strings before a part are among those behind it
-  declared_begins : (env : Env) (b : Before) (at : ℕ) (s : Spec) (d : Declarator) (m : MaybeInit) (k : Bool) (o : Option Ident) → Begins b.strings (after_declared env b at s d m k o).strings
-  declared_begins env b at s d m true (Some x) = by_object (object_declared env at s d x m)
-    where
-      by_object : (r : Checked Object) → Begins b.strings (after_global env b m r).strings
-      by_object (fine o) = begins_more b.strings (held_by env o.whole m)
-      by_object (faulty f fs) = begins_self b.strings
-  declared_begins env b at s d m k o = begins_self b.strings
-
-  parts_begin : (ps : Parts) (env : Env) (b : Before) (at : ℕ) (class : Storage) (s : Spec) → Begins b.strings (after_file_parts env b at class s ps).strings
-  parts_begin no_parts env b at class s = begins_self b.strings
-  parts_begin (more_parts d m ps) env b at class s =
-      let inner : Env = behind_file_part env b at class s d m in
-      let after : Before = after_file_part env b at class s d m in
-      begins_on b.strings after.strings (after_file_parts inner after at class s ps).strings (declared_begins env b at s d m (not (declares_function d) && defines class m) (name_of d)) (parts_begin ps inner after at class s)
-
-  decl_begins : (d : Decl) (env : Env) (b : Before) → Begins b.strings (after_file_decl env b d).strings
-  decl_begins (decl at class s ps) env b = parts_begin ps env b at class s
-
-  item_begins : (i : Item) (env : Env) (b : Before) → Begins b.strings (after_item env b i).strings
-  item_begins (decl_item at d) env b = decl_begins d env b
-  item_begins (function_item at class s d body) env b = begins_more b.strings _
-  item_begins i env b = begins_self b.strings
-
-  items_begin : (is : Items) (env : Env) (b : Before) → Begins b.strings (after_items env b is).strings
-  items_begin no_items env b = begins_self b.strings
-  items_begin (more_items i is) env b = begins_on b.strings (after_item env b i).strings (after_items (behind_item env b i) (after_item env b i) is).strings (item_begins i env b) (items_begin is (behind_item env b i) (after_item env b i))
-
-  parts_right : (ps : Parts) (env : Env) → IsFileRight env → (b : Before) (at : ℕ) (class : Storage) (s : Spec) (q : Output) → ArePartsLexical ps → file_parts env b at class s ps ≡ fine q → Follows env last → Follows (behind_file_parts env b at class s ps) last → Begins (after_file_parts env b at class s ps).strings all → IsOutputRight q
-  parts_right no_parts env w b at class s q l e g0 g h = no_output_right q e
-  parts_right (more_parts d m ps) env w b at class s q l e g0 g h =
-      let inner : Env = behind_file_part env b at class s d m in
-      let after : Before = after_file_part env b at class s d m in
-      let i = first_fine (named_part env b at class s d m (name_of d)) (file_parts inner after at class s ps) (λ p q. fine (with_output p q)) q e in
-      let step = part_step env b at class s d m (name_of d) i.0 w i.2 in
-      let rest = parts_step ps inner after at class s i.1 step.0 i.3 in
-      let g1 : Follows inner last = follows_on inner (behind_file_parts inner after at class s ps) last rest.1 g in
-      let h1 : Begins after.strings all = begins_on after.strings (after_file_parts inner after at class s ps).strings all (parts_begin ps inner after at class s) h in
-      subst IsOutputRight (output_same (with_output i.0 i.1) q i.4)
-      (output_both i.0 i.1 (part_right env w b at class s d m (name_of d) i.0 l.0 i.2 g0 g1 step.0 h1) (parts_right ps inner step.0 after at class s i.1 l.1 i.3 g1 g h))
-
-  form_right : (i : Item) (env : Env) → IsFileRight env → (b : Before) (q : Output) → IsItemLexical i → item env b i ≡ fine q → Follows env last → Follows (behind_by_form env b i) last → Begins (after_item env b i).strings all → IsOutputRight q
-  form_right (enum_item at x es) env w b q l e g0 g h = (let i = first_fine _ _ (λ _ _. fine no_output) q e in no_output_right q i.4)
-  form_right (decl_item at (decl here class s ps)) env w b q l e g0 g h = parts_right ps env w b here class s q l e g0 g h
-  form_right (function_item at class s d body) env w b q l e g0 g h = definition_right env w b at s d body (declares_function d) (name_of d) q refl l.1 e g h
-  form_right i env w b q l e g0 g h = (let i = on_fine _ (λ _. fine no_output) q e in no_output_right q i.2)
+  gives_right : {env inner : Env} {b a : Before} {q : Output} {xs ys : List Name} → Gives env b inner a q xs ys → Follows inner last → Begins a.strings all → IsOutputRight q
+  gives_right (starts w) g h = (tt, tt)
+  gives_right {inner = inner} (declares {middle = c} k s d) g h = gives_right k (follows_on c inner last s.1 g) h
+  gives_right {env} {b = b} {q = q} (an_object x m r o w l e n f s) g h = global_right env w b x m r q o e n s.0 l f (follows_on env (behind_global env true x r) last s.1 g) g h
+  gives_right {env} {b = b} {q = q} (a_definition at s d body x w n l k e t) g h = definition_right env w b at s d body x q k l e t g h
+  gives_right {inner = inner} (one_and_more {middle = e} {c = c} {a = a} {q = q} {r = r} j k) g h =
+      let more = gives_spans k in
+      output_both q r (gives_right j (follows_on e inner last (gives_step k).1 g) (begins_on c.strings a.strings all (more.more, more.strings) h)) (gives_right k g h)
 
   pub items_right : (is : Items) (env : Env) → IsFileRight env → (b : Before) (q : Output) → IsUnitLexical is → items env b is ≡ fine q → Follows (behind_items env b is) last → Begins (after_items env b is).strings all → IsOutputRight q
-  items_right no_items env w b q l e g h = no_output_right q e
-  items_right (more_items i is) env w b q l e g h =
-      let inner : Env = behind_item env b i in
-      let after : Before = after_item env b i in
-      let f = first_fine (item env b i) (items inner after is) (λ p q. fine (with_output p q)) q e in
-      let form = form_step i env b f.0 w l.0 f.2 in
-      let tags = tags_step (behind_by_form env b i) i form.0 in
-      let rest = items_step is inner after f.1 tags.0 l.1 f.3 in
-      let g2 : Follows inner last = follows_on inner (behind_items inner after is) last rest.1 g in
-      let g1 : Follows (behind_by_form env b i) last = follows_on (behind_by_form env b i) inner last tags.1 g2 in
-      let g0 : Follows env last = follows_on env (behind_by_form env b i) last form.1 g1 in
-      let h1 : Begins after.strings all = begins_on after.strings (after_items inner after is).strings all (items_begin is inner after) h in
-      subst IsOutputRight (output_same (with_output f.0 f.1) q f.4) (output_both f.0 f.1 (form_right i env w b f.0 l.0 f.2 g0 g1 h1) (items_right is inner tags.0 after f.1 l.1 f.3 g h))
+  items_right is env w b q l e g h = gives_right (items_give is env w b q l e) g h

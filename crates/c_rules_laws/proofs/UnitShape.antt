@@ -21,7 +21,8 @@ use Rattle.c_rules_laws.proofs.Definitions.{definition_fine}
 use Rattle.c_rules_laws.proofs.FileScopes.{IsFileRight, Agrees, Follows, follows_on}
 use Rattle.c_rules_laws.proofs.FileItems.{form_step, function_meant, IsFunctionNamed, items_step, part_step, parts_step, tags_step}
 use Rattle.c_rules_laws.proofs.DistinctNames.{itself}
-use Rattle.c_rules_laws.proofs.NamesOfItems.{defined_true}
+pub use Rattle.c_rules_laws.proofs.NamesOfItems.{output_same}
+use Rattle.c_rules_laws.proofs.NamesOfItems.{defined_true, Gives, starts, declares, an_object, a_definition, one_and_more, gives_step}
 
 -- two lists side by side
 abbrev pub Zip : {A B : Type 0} → (A → B → Type 0) → List A → List B → Type 0
@@ -82,9 +83,6 @@ function_shape env b place d x is (function t ts) f e =
     (ap (λ f. f.name) (sym j.1), ap (λ f. f.ctype) (sym j.1))
 function_shape env b place d x is u f e = absurd (cc)
 
-pub output_same : (p q : Output) → fine p ≡ fine q → p ≡ q
-output_same p q e = cc
-
 pub type_same : (t u : CType) → fine t ≡ fine u → t ≡ u
 type_same t u e = cc
 
@@ -122,62 +120,9 @@ object_shape last env b x m r p e g =
     subst (HasShape last [] (x.name ∷ [])) (output_same (static_of o j.0) p j.2)
     (record { functions = tt; statics = ((refl, (later.0, l.0, l.1, later.1, l.2)), tt) })
 
-no_shape : (last : Env) (p : Output) → fine no_output ≡ fine p → HasShape last [] [] p
-no_shape last p e = subst (HasShape last [] []) (output_same no_output p e) (shape_none last)
-
--- the names of the objects that a declarator defines
-abbrev defined_names : Storage → Declarator → MaybeInit → List Name
-defined_names class d m = if not (declares_function d) && defines class m then name_or_empty (name_of d) ∷ [] else []
-
-part_shape : (last env : Env) (b : Before) (at : ℕ) (class : Storage) (s : Spec) (d : Declarator) (m : MaybeInit) (o : Option Ident) (p : Output) → named_part env b at class s d m o ≡ fine p → Follows (behind_named_part env b at class s d m o) last
-    → HasShape last [] (if not (declares_function d) && defines class m then name_or_empty o ∷ [] else []) p
-part_shape last env b at class s d m None p e g = absurd (cc)
-part_shape last env b at class s d m (Some x) p e g = by_kind (declares_function d) (defines class m) refl e g
-  where
-    by_object : (k : Bool) → defines class m ≡ k → global env k b x m (global_declared env (defines class m) b at s d x m) ≡ fine p → Follows (behind_global env k x (global_declared env (defines class m) b at s d x m)) last → HasShape last [] (if k then x.name ∷ [] else []) p
-    by_object true q e g = object_shape last env b x m (global_declared env (defines class m) b at s d x m) p e g
-    by_object false q e g = (let i = on_fine (global_declared env (defines class m) b at s d x m) (λ _. fine no_output) p e in no_shape last p i.2)
-
-    by_kind : (f k : Bool) → defines class m ≡ k → declared_part env b at class s d m f x ≡ fine p → Follows (behind_declared env b at class s d m f x) last → HasShape last [] (if not f && k then x.name ∷ [] else []) p
-    by_kind true k q e g = (let i = first_fine (function_declared env false at s d x) (without_init m) (λ _ _. fine no_output) p e in no_shape last p i.4)
-    by_kind false k q e g = by_object k q (subst (λ z. global env z b x m (global_declared env (defines class m) b at s d x m) ≡ fine p) q e) (subst (λ z. Follows (behind_global env z x (global_declared env (defines class m) b at s d x m)) last) q g)
-
-names_joined : (k : Bool) (x : Name) (xs : List Name) → (if k then x ∷ [] else []) ++ xs ≡ (if k then x ∷ xs else xs)
-names_joined true x xs = refl
-names_joined false x xs = refl
-
-parts_shape : (ps : Parts) (last env : Env) (b : Before) (at : ℕ) (class : Storage) (s : Spec) (p : Output) → IsFileRight env → file_parts env b at class s ps ≡ fine p → Follows (behind_file_parts env b at class s ps) last → HasShape last [] (objects_of_parts class ps) p
-parts_shape no_parts last env b at class s p w e g = no_shape last p e
-parts_shape (more_parts d m ps) last env b at class s p w e g =
-    let inner : Env = behind_file_part env b at class s d m in
-    let after : Before = after_file_part env b at class s d m in
-    let i = first_fine (named_part env b at class s d m (name_of d)) (file_parts inner after at class s ps) (λ p q. fine (with_output p q)) p e in
-    let step = part_step env b at class s d m (name_of d) i.0 w i.2 in
-    let rest = parts_step ps inner after at class s i.1 step.0 i.3 in
-    let h = part_shape last env b at class s d m (name_of d) i.0 i.2 (follows_on inner (behind_file_parts inner after at class s ps) last rest.1 g) in
-    let k = parts_shape ps last inner after at class s i.1 step.0 i.3 g in
-    subst (λ xs. HasShape last [] xs p) (names_joined (not (declares_function d) && defines class m) (name_or_empty (name_of d)) (objects_of_parts class ps))
-    (subst (HasShape last [] (defined_names class d m ++ objects_of_parts class ps)) (output_same (with_output i.0 i.1) p i.4) (shape_both last [] (defined_names class d m) [] (objects_of_parts class ps) i.0 i.1 h k))
-
-named_shape : (last env : Env) (b : Before) (at : ℕ) (s : Spec) (d : Declarator) (body : Stmt) (k : Bool) (o : Option Ident) (p : Output) → IsFileRight env → IsNamed o → function_named env b at s d body k o ≡ fine p → Follows (behind_function_named env at s d o) last → HasShape last (name_or_empty o ∷ []) [] p
-named_shape last env b at s d body true (Some x) p w n e g = definition_shape last env b at s d body x p w n e g
-named_shape last env b at s d body k o p w n e g = absurd (cc)
-
-form_shape : (i : Item) (last env : Env) (b : Before) (p : Output) → IsFileRight env → IsItemLexical i → item env b i ≡ fine p → Follows (behind_by_form env b i) last → HasShape last (functions_of_item i) (objects_of_item i) p
-form_shape (enum_item at x es) last env b p w n e g = (let i = first_fine _ _ (λ _ _. fine no_output) p e in no_shape last p i.4)
-form_shape (decl_item at (decl here class s ps)) last env b p w n e g = parts_shape ps last env b here class s p w e g
-form_shape (function_item at class s d body) last env b p w n e g = named_shape last env b at s d body (declares_function d) (name_of d) p w n.0 e g
-form_shape i last env b p w n e g = (let i = on_fine _ (λ _. fine no_output) p e in no_shape last p i.2)
-
-pub items_shape : (is : Items) (last env : Env) (b : Before) (p : Output) → IsFileRight env → IsUnitLexical is → items env b is ≡ fine p → Follows (behind_items env b is) last → HasShape last (functions_of is) (objects_of is) p
-items_shape no_items last env b p w l e g = no_shape last p e
-items_shape (more_items i is) last env b p w l e g =
-    let inner : Env = behind_item env b i in
-    let after : Before = after_item env b i in
-    let f = first_fine (item env b i) (items inner after is) (λ p q. fine (with_output p q)) p e in
-    let form = form_step i env b f.0 w l.0 f.2 in
-    let tags = tags_step (behind_by_form env b i) i form.0 in
-    let rest = items_step is inner after f.1 tags.0 l.1 f.3 in
-    let here = follows_on (behind_by_form env b i) inner last tags.1 (follows_on inner (behind_items inner after is) last rest.1 g) in
-    subst (HasShape last (functions_of_item i ++ functions_of is) (objects_of_item i ++ objects_of is)) (output_same (with_output f.0 f.1) p f.4)
-    (shape_both last (functions_of_item i) (objects_of_item i) (functions_of is) (objects_of is) f.0 f.1 (form_shape i last env b f.0 w l.0 f.2 here) (items_shape is last inner after f.1 tags.0 l.1 f.3 g))
+pub gives_shape : (last : Env) {env inner : Env} {b a : Before} {q : Output} {xs ys : List Name} → Gives env b inner a q xs ys → Follows inner last → HasShape last xs ys q
+gives_shape last (starts w) g = shape_none last
+gives_shape last {inner = inner} (declares {middle = c} h s d) g = gives_shape last h (follows_on c inner last s.1 g)
+gives_shape last {env} {b = b} {q = q} (an_object x m r o w l e n f s) g = object_shape last env b x m r q f g
+gives_shape last {env} {b = b} {q = q} (a_definition at s d body x w n l k e t) g = definition_shape last env b at s d body x q w n e g
+gives_shape last {inner = inner} (one_and_more {middle = c} {q = q} {r = r} {xs = xs} {ys = ys} {zs = zs} {ws = ws} h k) g = shape_both last xs ys zs ws q r (gives_shape last h (follows_on c inner last (gives_step k).1 g)) (gives_shape last k g)

@@ -26,7 +26,8 @@ use Rattle.c_rules_laws.proofs.SoundStructs.{are_structs}
 use Rattle.c_rules_laws.proofs.FileScopes.{IsFileRight, follows_self}
 use Rattle.c_rules_laws.proofs.FileItems.{Step, items_step}
 use Rattle.c_rules_laws.proofs.UnitScopes.{IsTable, suc_some}
-use Rattle.c_rules_laws.proofs.UnitShape.{Zip, zip_at, zip_long, IsFunctionOf, IsObjectOf, HasShape, items_shape}
+use Rattle.c_rules_laws.proofs.UnitShape.{Zip, zip_at, zip_long, IsFunctionOf, IsObjectOf, HasShape, gives_shape}
+use Rattle.c_rules_laws.proofs.NamesOfItems.{items_give}
 use Rattle.c_rules_laws.proofs.UnitItems.{begins_self, AreFunctions, AreStatics, items_right}
 
 -- ## Before all items
@@ -83,7 +84,7 @@ module _ (m : Mode) (u : Items) (out : Output) (lexical : IsUnitLexical u) (type
   step = items_step u (env_before m u) nothing_before out (before_right (whole_of m u)) lexical typed
 
   pub shape : HasShape (env_behind m u) (functions_of u) (objects_of u) out
-  shape = items_shape u (env_behind m u) (env_before m u) nothing_before out (before_right (whole_of m u)) lexical typed (follows_self (env_behind m u))
+  shape = gives_shape (env_behind m u) (items_give u (env_before m u) (before_right (whole_of m u)) nothing_before out lexical typed) (follows_self (env_behind m u))
 
   function_at : (x : Name) (b : Binding) (t : CType) (d : Bool) (i : ℕ) → lookup (env_behind m u).names x ≡ Some b → b.means ≡ a_function t d → number_among (env_behind m u).whole.functions x ≡ Some i → (f : Function) × (slice_get out.functions i ≡ Some f) × (f.ctype ≡ t)
   function_at x b t d i e q n =

@@ -34,7 +34,7 @@ use Rattle.c_rules_laws.proofs.Spans.{Spans, items_span}
 use Rattle.c_rules_laws.proofs.StaticStrings.{strings_static}
 use Rattle.c_rules_laws.proofs.DistinctNames.{Differ, among_first, among_rest, among_left, few_names}
 use Rattle.c_rules_laws.proofs.DefinedNames.{IsDefined, Defines}
-use Rattle.c_rules_laws.proofs.NamesOfItems.{items_define}
+use Rattle.c_rules_laws.proofs.NamesOfItems.{gives_defined, items_give}
 use Rattle.c_rules_laws.proofs.UnitTable.{name_at, one_binding, no_binding, same_function}
 
 -- ## Before all items
@@ -111,7 +111,7 @@ module _ (m : Mode) (u : Items) (out : Output) (lexical : IsUnitLexical u) (type
   start = before_right (whole_of m u)
 
   names : Defines (env_before m u) (env_behind m u) (functions_of u)
-  names = items_define u (env_before m u) start nothing_before out lexical typed
+  names = gives_defined (items_give u (env_before m u) start nothing_before out lexical typed)
 
   spans : Spans nothing_before (after_items (env_before m u) nothing_before u) out
   spans = items_span u (env_before m u) start nothing_before out lexical typed
