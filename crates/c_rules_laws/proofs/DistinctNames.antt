@@ -29,9 +29,8 @@ pub among_split : (y x : Name) (ys : List Name) → is_among (y ∷ ys) x ≡ (b
 among_split y x ys = by_test (bytes_eq y x) (number_among ys x)
   where
     by_test : (b : Bool) (o : Option ℕ) → is_some (if b then Some 0 else option_map suc o) ≡ (b || is_some o)
-    by_test true o = refl
-    by_test false None = refl
     by_test false (Some n) = refl
+    by_test b o = refl
 
 pub among_first : (y x : Name) (ys : List Name) → bytes_eq y x ≡ true → is_among (y ∷ ys) x ≡ true
 among_first y x ys e = among_split y x ys ∙ ap (λ b. b || is_among ys x) e

@@ -53,11 +53,10 @@ mutual
   held_same env t (list at is) = held_in_turn_same env (slots env t) is
 
   pub held_in_turn_same : (env : Env) (s : Slots) (is : Inits) → held_in_turn env s (unplaced_inits is) ≡ held_in_turn env s is
-  held_in_turn_same env s no_inits = refl
-  held_in_turn_same env (copies zero t) (more_inits i is) = refl
   held_in_turn_same env (copies (suc n) t) (more_inits i is) = ap₂ (λ v w. v ++ w) (held_same env t i) (held_in_turn_same env (copies n t) is)
-  held_in_turn_same env (each []) (more_inits i is) = refl
   held_in_turn_same env (each (t ∷ ts)) (more_inits i is) = ap₂ (λ v w. v ++ w) (held_same env t i) (held_in_turn_same env (each ts) is)
+  held_in_turn_same env s no_inits = refl
+  held_in_turn_same env s is = refl
 
 pub held_by_same : (env : Env) (t : CType) (m : MaybeInit) → held_by env t (unplaced_maybe_init m) ≡ held_by env t m
 held_by_same env t no_init = refl

@@ -120,7 +120,6 @@ module _ (p : Program) where
     meaning_right : (x : Name) (b : Binding) → lookup env.names x ≡ Some b → (m : Meaning) → b.means ≡ m → FileMeaning env x m → MeaningRight p vars env x m
     meaning_right x b e (a_static seen whole d) q h =
         (inl h.0, subst IsThing (sym h.0) (complete_thing (layout_of env) whole h.1), h.1, h.2, object_at x b seen whole d e q)
-    meaning_right x b e (a_local n seen whole) q h = absurd h
     meaning_right x b e (a_function u d) q h = (
       h.0,
       λ f n. by_number (λ f. called_type p f ≡ Some u) 0 (number_among env.whole.functions x) (given_number env (number_among (given_names env.whole.mode) x)) f n
@@ -131,7 +130,7 @@ module _ (p : Program) where
           (λ k. (let i = given_is env (number_among (given_names env.whole.mode) x) f k in subst (λ f. value_type p f ≡ Some u) (ap (λ n. n + i.0) long_here ∙ i.2) (given_value env.whole.mode x i.0 u i.1 z (h.1 i.0 i.1).0))),
     )
     meaning_right x b e (an_enumerator z) q h = h
-    meaning_right x b e (unknown f fs) q h = absurd h
+    meaning_right x b e m q h = absurd h
 
     -- a scope at file scope is right in the program
     pub scope_right : IsRight p vars env
