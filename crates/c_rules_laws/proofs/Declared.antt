@@ -24,20 +24,15 @@ use Rattle.c_rules_laws.proofs.Operators.{complete_alike}
 -- ## Types
 
 pub spec_alike : (env : Env) (at to : ℕ) (s : Spec) → Alike CType (type_of_spec env at s) (type_of_spec env to (unplaced_spec s))
-spec_alike env at to syntax.void = alike (type_of_spec env at syntax.void)
-spec_alike env at to syntax.char = alike (type_of_spec env at syntax.char)
-spec_alike env at to syntax.unsigned_char = alike (type_of_spec env at syntax.unsigned_char)
-spec_alike env at to syntax.int = alike (type_of_spec env at syntax.int)
-spec_alike env at to syntax.unsigned_int = alike (type_of_spec env at syntax.unsigned_int)
 spec_alike env at to (syntax.struct x) = demand_alike (not (is_among env.enums x.name)) C2 x.at 0 (struct (tag_number env x.name))
 spec_alike env at to (syntax.enum x) = demand_alike (is_among env.enums x.name) C1 at to (integer Int)
+spec_alike env at to s = alike (type_of_spec env at s)
 
 within_alike : (at to : ℕ) (t : CType) → Alike CType (within_parts at t) (within_parts to t)
 within_alike at to t = demand_alike (few_parts t) C13 at to t
 
 pub pointer_alike : (at to : ℕ) (t : CType) → Alike CType (pointer_to at t) (pointer_to to t)
 pointer_alike at to void = fault_alike C3 at to
-pointer_alike at to (pointer t) = within_alike at to (pointer (pointer t))
 pointer_alike at to (array t n) = fault_alike C3 at to
 pointer_alike at to t = within_alike at to (pointer t)
 

@@ -33,8 +33,9 @@ use Rattle.c_rules_laws.proofs.SoundStructs.{grows_same}
 use Rattle.c_rules_laws.proofs.TypesOfTypedExpressions.{sized_few}
 use Rattle.c_rules_laws.proofs.TypesOfExpressions.{type_declared_made}
 use Rattle.c_rules_laws.proofs.RightDeclarations.{IsObjectRight, declared_right}
-use Rattle.c_rules_laws.proofs.FileScopes.{struct_defined, MembersRight, members_right, all_complete, all_made, some_members, FileMeaning, IsFileRight, Agrees, agrees_self, Follows, follows_self, follows_on, file_named, file_structs}
+use Rattle.c_rules_laws.proofs.FileScopes.{struct_defined, MembersRight, members_right, all_types, some_members, FileMeaning, IsFileRight, Agrees, agrees_self, Follows, follows_self, follows_on, file_named, file_structs}
 use Rattle.c_tree.proofs.OperatorLemmas.{fits}
+use Rattle.c_tree.specs.Operands.{IsComplete}
 
 -- ## Types of functions
 
@@ -156,7 +157,7 @@ struct_step env x ms s w some e =
     let n = held (λ xs. 1 ≤ length xs) (members env [] ms) g.0 (some_members env [] ms some) g.1 in
     let o = held (λ _. is_incomplete (struct_of env (tag_number env x.name)) ≡ true) (new_struct env x) f.0 (new_struct_empty env x) f.2 in
     let l : 1 ≤ length (map type_of_member g.0) = subst (λ k. 1 ≤ k) (sym (length-map g.0 type_of_member)) n in
-    let d = struct_defined env x.name g.0 w.names_known.sound o (all_complete env g.0 m) (all_made env g.0 m) l h.1 in
+    let d = struct_defined env x.name g.0 w.names_known.sound o (all_types env (IsComplete (layout_of env)) (λ _ h. h.1) g.0 m) (all_types env (Made (layout_of env)) (λ _ h. h.0) g.0 m) l h.1 in
     let same : struct_or_unknown (struct_definition env x ms) ≡ defined_struct g.0 = ap struct_or_unknown e ∙ (sym (fine_same f.1 s f.4) ∙ h.0) in
     subst (λ z. Step env (with_struct env x.name z)) (sym same) (file_structs env x.name (defined_struct g.0) w d.0 d.1)
 

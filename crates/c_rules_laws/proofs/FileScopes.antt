@@ -97,13 +97,9 @@ module _ (env : Env) where
   members_right earlier (more_members at s ds rest) =
       both_hold MembersRight MembersRight MembersRight (members_declared env earlier at s ds) (members env (names_behind earlier ds) rest) _ (declared_members earlier at s ds) (members_right (names_behind earlier ds) rest) (λ ms ns h k. each_both (λ m. TypeRight m.ctype) ms ns h k)
 
-  pub all_complete : (ms : List Member) → MembersRight ms → All (IsComplete (layout_of env)) (map type_of_member ms)
-  all_complete [] h = λ k d l. absurd (omega (arith, l))
-  all_complete (m ∷ ms) h = All-cons (IsComplete (layout_of env)) m.ctype (map type_of_member ms) h.0.1 (all_complete ms h.1)
-
-  pub all_made : (ms : List Member) → MembersRight ms → All (Made (layout_of env)) (map type_of_member ms)
-  all_made [] h = λ k d l. absurd (omega (arith, l))
-  all_made (m ∷ ms) h = All-cons (Made (layout_of env)) m.ctype (map type_of_member ms) h.0.0 (all_made ms h.1)
+  pub all_types : (P : CType → Type 0) → ((t : CType) → TypeRight t → P t) → (ms : List Member) → MembersRight ms → All P (map type_of_member ms)
+  all_types P f [] h = λ k d l. absurd (omega (arith, l))
+  all_types P f (m ∷ ms) h = All-cons P m.ctype (map type_of_member ms) (f m.ctype h.0) (all_types P f ms h.1)
 
   some_declared : (earlier : List Name) (at : ℕ) (s : Spec) (d : Declarator) (ds : Declarators) → Holds (λ ms. 1 ≤ length ms) (members_declared env earlier at s (more_declarators d ds))
   some_declared earlier at s d ds = both_hold Any Any (λ ms. 1 ≤ length ms) (member_declared env earlier at s d) (members_declared env (with_option (name_of d) earlier) at s ds) _ (anything _) (anything _) (λ m ms _ _. omega arith)

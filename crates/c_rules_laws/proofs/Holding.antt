@@ -31,8 +31,7 @@ either P true x y h k = h refl
 either P false x y h k = k
 
 pub if_holds : {A : Type 0} (P : A → Type 0) (t : Bool) (r s : Checked A) → Holds P r → Holds P s → Holds P (if t then r else s)
-if_holds P true r s h k = h
-if_holds P false r s h k = k
+if_holds P t r s h k = either (Holds P) t r s (λ _. h) k
 
 pub three_fine : {A B C D : Type 0} (p : Checked A) (q : Checked B) (r : Checked C) (k : A → B → C → Checked D) (d : D) → all_three p q r k ≡ fine d → (a : A) × (b : B) × (c : C) × (p ≡ fine a) × (q ≡ fine b) × (r ≡ fine c) × (k a b c ≡ fine d)
 three_fine (fine a) (fine b) (fine c) k d e = (a, b, c, refl, refl, refl, e)

@@ -53,10 +53,8 @@ result_is (pointer t) h = tt
 result_is t h = absurd (cc)
 
 pub result_not_array : (t : CType) → IsResult t → NotArray t
-result_not_array void h = tt
-result_not_array (integer i) h = tt
-result_not_array (pointer t) h = tt
-result_not_array t h = absurd h
+result_not_array (array t n) h = absurd h
+result_not_array t h = tt
 
 pub scalar_not_array : (t : CType) → IsScalar t → NotArray t
 scalar_not_array (array t n) h = absurd h

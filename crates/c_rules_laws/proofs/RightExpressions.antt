@@ -177,17 +177,8 @@ module _ (p : Program) (vars : List CType) where
 
   -- ## Expressions
 
-  abbrev pub TreesBoth : Env → Exprs → List TypedExpression → Type 0
-  TreesBoth env no_exprs gs = ValuesRight p vars gs
-  TreesBoth env (more_exprs e es) gs = ValuesRight p vars gs × (1 ≤ length gs)
-
-  values_of : (env : Env) (es : Exprs) (gs : List TypedExpression) → TreesBoth env es gs → ValuesRight p vars gs
-  values_of env no_exprs gs h = h
-  values_of env (more_exprs e es) gs h = h.0
-
-  some_of : (env : Env) (es : Exprs) (gs : List TypedExpression) → AreSomeExprs es → TreesBoth env es gs → 1 ≤ length gs
-  some_of env no_exprs gs s h = absurd s
-  some_of env (more_exprs e es) gs s h = h.1
+  abbrev pub TreesBoth : Exprs → List TypedExpression → Type 0
+  TreesBoth es gs = ValuesRight p vars gs × (AreSomeExprs es → 1 ≤ length gs)
 
   mutual
     pub tree_right : (x : Expr) (env : Env) → IsRight p vars env → IsLexical x → (b : Before) → StringsIn p vars (string_number env b) (strings x) → Holds (TypedExpressionRight p vars) (tree env b x)
@@ -195,16 +186,16 @@ module _ (p : Program) (vars : List CType) where
     tree_right (an_int at n u) env w l b s = integer_right n u (constant_below n u l)
     tree_right (a_char at c) env w l b s = (let k : IsConstant int (v.Int c) = (refl, grind (arith, l)) in (refl, k, tt, k))
     tree_right (a_str at t) env w l b s = string_right env w at b t s
-    tree_right (comma at es) env w l b s = on_holds (TreesBoth env es) (TypedExpressionRight p vars) (trees env b es) (λ gs. fine (comma_of gs)) (trees_right es env w l.1 b s) (λ gs k. comma_right p vars gs (some_of env es gs l.0 k) (values_of env es gs k))
+    tree_right (comma at es) env w l b s = on_holds (TreesBoth es) (TypedExpressionRight p vars) (trees env b es) (λ gs. fine (comma_of gs)) (trees_right es env w l.1 b s) (λ gs k. comma_right p vars gs (k.1 l.0) k.0)
     tree_right (sizeof_type at t) env w l b s = on_holds (Made (layout_of env)) (TypedExpressionRight p vars) (type_named env t) (size_of_type env at (place_of_type t)) (type_named_made env t) (λ u m. size_right p vars env w.names_known.sound at (place_of_type t) u m)
     tree_right (cast at t e) env w l b s = cast_rule_right env (is_void_pointer t) at (type_named env t) (value_at env (place_of e) (tree env b e)) (value_at_right env w (place_of e) (tree env b e) (tree_typed e env w.names_known l b) (tree_right e env w l b s))
     tree_right (call at d es) env w l b s =
-        all_three_hold (λ f. CalleeTyped env f × CalleeRight p vars f) Any (TreesBoth env es) (TypedExpressionRight p vars) (callee env at d (value_at env (place_of d) (tree env b d))) (site_of env (b.sites + calls d) at) (trees env (after_designator b d) es) (called at)
+        all_three_hold (λ f. CalleeTyped env f × CalleeRight p vars f) Any (TreesBoth es) (TypedExpressionRight p vars) (callee env at d (value_at env (place_of d) (tree env b d))) (site_of env (b.sites + calls d) at) (trees env (after_designator b d) es) (called at)
         (holds_two (CalleeTyped env) (CalleeRight p vars) (callee env at d (value_at env (place_of d) (tree env b d)))
         (callee_typed env w.names_known at d (value_at env (place_of d) (tree env b d)) (value_at_typed env (place_of d) (tree env b d) (tree_typed d env w.names_known l.0 b)))
         (callee_right env w at d (value_at env (place_of d) (tree env b d)) (value_at_right env w (place_of d) (tree env b d) (tree_typed d env w.names_known l.0 b) (tree_right d env w l.0 b (strings_first (string_number env b) (strings d) (strings_of_all es) s)))))
         (anything (site_of env (b.sites + calls d) at)) (trees_right es env w l.1 (after_designator b d) (strings_rest env b (suc (calls d)) (strings d) (strings_of_all es) s))
-        (λ f n gs h _ k. called_right p vars at f n gs h.0.returns.result h.1 (values_of env es gs k))
+        (λ f n gs h _ k. called_right p vars at f n gs h.0.returns.result h.1 k.0)
     tree_right (member at how e y) env w l b s = access_right env w at (place_of e) how y.name (tree env b e) (tree_typed e env w.names_known l b) (tree_right e env w l b s)
     tree_right (postfix at o e) env w l b s = after_operand_right env w at (place_of e) o (tree env b e) (place_at_right env w (place_of e) (tree env b e) (tree_typed e env w.names_known l b) (tree_right e env w l b s))
     tree_right (prefix at pre_increment e) env w l b s =
@@ -238,13 +229,13 @@ module _ (p : Program) (vars : List CType) where
         (value_at_right env w (place_of f) (tree env (after (after b c) e) f) (tree_typed f env w.names_known l.2 (after (after b c) e)) (tree_right f env w l.2 (after (after b c) e) (strings_rest env (after b c) (calls e) (strings e) (strings f) (strings_rest env b (calls c) (strings c) (strings e ++ strings f) s))))
         (λ g h i k m n. choice_right p vars env w.within at g h i k.1 m.1 n.1)
 
-    pub trees_right : (xs : Exprs) (env : Env) → IsRight p vars env → AreLexical xs → (b : Before) → StringsIn p vars (string_number env b) (strings_of_all xs) → Holds (TreesBoth env xs) (trees env b xs)
-    trees_right no_exprs env w l b s = tt
+    pub trees_right : (xs : Exprs) (env : Env) → IsRight p vars env → AreLexical xs → (b : Before) → StringsIn p vars (string_number env b) (strings_of_all xs) → Holds (TreesBoth xs) (trees env b xs)
+    trees_right no_exprs env w l b s = (tt, λ n. absurd n)
     trees_right (more_exprs x xs) env w l b s =
-        both_hold (ValueBoth env) (TreesBoth env xs) (TreesBoth env (more_exprs x xs)) (value_at env (place_of x) (tree env b x)) (trees env (after b x) xs) (λ g gs. fine (g ∷ gs))
+        both_hold (ValueBoth env) (TreesBoth xs) (TreesBoth (more_exprs x xs)) (value_at env (place_of x) (tree env b x)) (trees env (after b x) xs) (λ g gs. fine (g ∷ gs))
         (value_at_right env w (place_of x) (tree env b x) (tree_typed x env w.names_known l.0 b) (tree_right x env w l.0 b (strings_first (string_number env b) (strings x) (strings_of_all xs) s)))
         (trees_right xs env w l.1 (after b x) (strings_rest env b (calls x) (strings x) (strings_of_all xs) s))
-        (λ g gs h k. ((h.1, values_of env xs gs k), omega arith))
+        (λ g gs h k. ((h.1, k.0), λ _. omega arith))
 
   -- the value of an expression
   pub value_right : (x : Expr) (env : Env) → IsRight p vars env → IsLexical x → (b : Before) → StringsIn p vars (string_number env b) (strings x) → Holds (ValueBoth env) (value env b x)

@@ -94,10 +94,6 @@ module _ (p : Program) (vars : List CType) where
   tree_right : (A B : Type 0) (env other : Env) (next : Next) (names : List Name) (T : A → Type 0) (U : B → Type 0) (q : StatementTree A) (c : B) → layout_of other ≡ layout_of env → IsStatementTreeRight p vars A other next names T q → (IsRight p vars env → IsRight p vars other) → (T q.tree → IsRight p vars env → U c) → IsStatementTreeRight p vars B env next names U (with_tree q c)
   tree_right A B env other next names T U q c same h g f = record { numbers = h.numbers; plain_sizes = subst (λ z. AreKnownSizes p vars z q.plain) same h.plain_sizes; added_sizes = subst (λ z. AreKnownSizes p vars z q.added) same h.added_sizes; right = λ w x. (let y = h.right (g w) x in (f y.0 w, y.1, y.2)) }
 
-  -- in a scope round it
-  in_outer : (env outer : Env) (next : Next) (names : List Name) (T : typed.Stmt → Type 0) (q : StatementTree typed.Stmt) → layout_of outer ≡ layout_of env → IsStatementTreeRight p vars typed.Stmt outer next names T q → (IsRight p vars env → IsRight p vars outer) → IsStatementTreeRight p vars typed.Stmt env next names T q
-  in_outer env outer next names T q same h f = record { numbers = h.numbers; plain_sizes = subst (λ z. AreKnownSizes p vars z q.plain) same h.plain_sizes; added_sizes = subst (λ z. AreKnownSizes p vars z q.added) same h.added_sizes; right = λ w x. h.right (f w) x }
-
   is_true : (b : Bool) → b ≡ true → IsTrue b
   is_true b e = subst IsTrue (sym e) refl
 
@@ -207,8 +203,8 @@ module _ (p : Program) (vars : List CType) where
         (both_hold (TestRight inner) (StepRight inner) (λ c. TestRight inner c.first × StepRight inner c.second) (test_of inner b1 at test) (step_of inner b2 step) (λ x y. fine (record { first = x; second = y }))
         (test_right test inner b1 at l.1 (strings_first p vars (string_number inner b1) (strings_of_maybe test) (strings_of_maybe step ++ held_by_stmt inner names t) s1)) (step_right step inner b2 l.2 (strings_first p vars (string_number inner b2) (strings_of_maybe step) (held_by_stmt inner names t) s2)) (λ x y h k. (h, k)))
         (stmt_right t inner (in_loop a) b3 names l.3 (strings_rest p vars inner b2 (calls_of_maybe step) (strings_of_maybe step) (held_by_stmt inner names t) s2))
-        (λ q c r h f k. in_outer env outer next (names_of_first first ++ names_of_stmt t) (IsStmt p vars a.returns a.breaks a.continues) (for_of q c r) refl
-        (join_right p vars typed.Stmts typed.Stmt typed.Stmt outer inner next (names_of_first first) (names_of_stmt t) (λ y. AreFirst p vars y × IsRight p vars inner) (IsStmt p vars a.returns true true) (IsStmt p vars a.returns a.breaks a.continues) q r (typed.for_loop q.tree c.first c.second r.tree) (first_keeps layout_of (λ _ _ _. refl) first outer next) h k (λ y _. y.1) (λ y z w. (y.0, f.0 y.1, f.1 y.1, z))) (right_inside p vars env))
+        (λ q c r h f k. tree_right typed.Stmt typed.Stmt env outer next (names_of_first first ++ names_of_stmt t) (IsStmt p vars a.returns a.breaks a.continues) (IsStmt p vars a.returns a.breaks a.continues) (for_of q c r) (typed.for_loop q.tree c.first c.second r.tree) refl
+        (join_right p vars typed.Stmts typed.Stmt typed.Stmt outer inner next (names_of_first first) (names_of_stmt t) (λ y. AreFirst p vars y × IsRight p vars inner) (IsStmt p vars a.returns true true) (IsStmt p vars a.returns a.breaks a.continues) q r (typed.for_loop q.tree c.first c.second r.tree) (first_keeps layout_of (λ _ _ _. refl) first outer next) h k (λ y _. y.1) (λ y z w. (y.0, f.0 y.1, f.1 y.1, z))) (right_inside p vars env) (λ x _. x))
     stmt_right (switch_on at x gs) env a b next l s =
         switch_right env at a next (names_of_groups gs) (switched at (value env b x)) (λ i. groups_of_switch env (in_switch a) (after b x) next i gs)
         (on_holds (λ g. IsRight p vars env → ValueBoth p vars env g) (λ h. IsRight p vars env → (i : IntType) × (h.ctype ≡ integer i) × IsPromoted i × ValueRight p vars h) (value env b x) (λ g. switched_kind at g (kind_of g.ctype))

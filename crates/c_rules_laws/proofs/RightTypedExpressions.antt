@@ -228,8 +228,7 @@ module _ (p : Program) where
       (lies_in (h.all) (repeat q.elements (flat p.structs t)) (flat p.structs t) q.first (q.index * cells p.structs t) h.lies (repeat_lies q.elements q.index (flat p.structs t) l))
 
   if_part : (t : CType) (b : Bool) (x : Value) → (b ≡ true → HasType p (static_objects p) t x) → ConstRight t (if b then known x else undefined)
-  if_part t true x h = h refl
-  if_part t false x h = tt
+  if_part t b x h = either (ConstRight t) b (known x) undefined h tt
 
   -- a static object, where it may have so many cells
   pub static_right : (string : Bool) (n k : ℕ) (t : CType) → IsStaticOf p string n t → IsObject p.structs t → k ≡ cells p.structs t → ConstRight (pointer t) (static_address n k)

@@ -192,11 +192,9 @@ call_span s n m site e =
     ap (λ k. range_with_len s n ++ k ∷ range_with_len (s + suc n) m) e ∙ (ap (λ k. range_with_len s n ++ (s + n) ∷ range_with_len k m) (sym f) ∙ sym (range_append s n (suc m)))
 
 call_fits : (s c n m : ℕ) (xs ys : List (List ℕ)) → Fits s c n xs → suc (s + n) ≤ 30000 → Fits (s + suc n) (c + string_cells xs) m ys → Fits s c (n + suc m) (xs ++ ys)
-call_fits s c n m xs ys h l k = record {
-  sites_fit = λ q. (let a : s + suc n ≤ 30000 = omega (arith, l) in let b = k.sites_fit a in omega (arith, b));
-  cells_fit = λ q. (let a = h.cells_fit q in let b = k.cells_fit a in let e = cells_both xs ys in omega (arith, b, e));
-  short = each_both (λ w. suc (length w) ≤ 65536) xs ys h.short k.short;
-}
+call_fits s c n m xs ys h l k =
+    let more : Fits (s + n) (c + string_cells xs) (suc m) ys = record { sites_fit = λ q. (let b = k.sites_fit (omega (arith, l)) in omega (arith, b)); cells_fit = k.cells_fit; short = k.short } in
+    fits_both s c n (suc m) xs ys h more
 
 mutual
   pub tree_counted : (x : Expr) (env : Env) → env.context ≡ evaluated → (b : Before) → Holds (Counted b (calls x) (strings x)) (tree env b x)

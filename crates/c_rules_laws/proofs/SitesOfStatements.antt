@@ -22,7 +22,7 @@ use Rattle.c_rules.specs.Objects.{Object, object_declared}
 use Rattle.c_rules.specs.Variables.{Next, number_in, past_names, names_of_decl, names_of_first, names_of_stmt, names_of_stmts, calls_of_parts, calls_of_decl, calls_of_first, calls_of_stmt, calls_of_block, calls_of_stmts, calls_of_groups}
 use Rattle.c_rules.specs.Blocks.{within_local, behind_named, behind_part, past_part, behind_parts, behind_decl, behind_first, held_by_object, held_by_named, held_by_part, held_by_parts, held_by_decl, held_by_first, held_by_stmt, held_by_block, held_by_stmts, held_by_groups, after_part, after_decl, after_first, after_stmt, after_stmts, StatementTree, bare, with_tree, joined, one_more, alone, appended, some_more, local_of, local, local_named, local_part, local_parts, local_decl, is_given}
 use Rattle.c_rules.specs.Statements.{Around, in_loop, in_switch, condition_at, test_of, step_of, first_of, for_of, switched_kind, switched, label_type, labels_of, Labelled, labelled, switch_of, returned, stmt, items_of_block, stmts, groups_of_switch}
-use Rattle.c_rules_laws.proofs.Holding.{Holds, on_holds, both_hold, all_three_hold, Any, anything, demand_holds, alone_holds}
+use Rattle.c_rules_laws.proofs.Holding.{Holds, on_holds, both_hold, all_three_hold, Any, anything, demand_holds, alone_holds, either}
 use Rattle.c_rules_laws.proofs.SitesOfExpressions.{fits_none, fits_both, FitsAt, Span, Counted, holds_with, range_append, value_counted}
 use Rattle.c_rules_laws.proofs.RightInitialisers.{InitCounted, local_counted, stores_sites}
 use Rattle.c_rules.proofs.NothingMore.{nothing_more}
@@ -76,10 +76,6 @@ StmtSpan b n ws p = IsSpan b n ws (sites_of_stmt p.tree)
 abbrev pub StmtsSpan : Before → ℕ → List (List ℕ) → StatementTree typed.Stmts → Type 0
 StmtsSpan b n ws p = IsSpan b n ws (sites_of_stmts p.tree)
 
-laid_span : (t : Bool) (b : Before) (n : ℕ) (ws : List (List ℕ)) (x y : StatementTree typed.Stmt) → StmtSpan b n ws x → StmtSpan b n ws y → StmtSpan b n ws (if t then x else y)
-laid_span true b n ws x y h k = h
-laid_span false b n ws x y h k = k
-
 -- a name in scope changes nothing of which strings an initialiser holds
 mutual
   held_named : (i : Init) (env : Env) (x : Name) (m : Meaning) (t : CType) → held (with_name env x m) t i ≡ held env t i
@@ -100,7 +96,7 @@ local_of_span env inner e b next x m o same =
     on_holds (InitCounted b (calls_of_maybe_init m) (held_by inner o.whole m)) (StmtSpan b (calls_of_maybe_init m) (held_by env o.whole m)) (initialised_local inner b o.whole m) _ (local_counted m inner e b o.whole)
     (λ gs h.
     (let s : IsSpan b (calls_of_maybe_init m) (held_by env o.whole m) (sites_of_inits (stores_from 0 gs)) = (stores_sites 0 gs (Span b (calls_of_maybe_init m)) h.0, subst (λ ws. FitsAt b (calls_of_maybe_init m) ws) same h.1) in
-    laid_span (is_added x.name) b (calls_of_maybe_init m) (held_by env o.whole m) (record { tree = typed.declare (number_in next x.name) (stores_from 0 gs); plain = []; added = o.whole ∷ [] }) (record { tree = typed.declare (number_in next x.name) (stores_from 0 gs); plain = o.whole ∷ []; added = [] }) s s))
+    either (StmtSpan b (calls_of_maybe_init m) (held_by env o.whole m)) (is_added x.name) (record { tree = typed.declare (number_in next x.name) (stores_from 0 gs); plain = []; added = o.whole ∷ [] }) (record { tree = typed.declare (number_in next x.name) (stores_from 0 gs); plain = o.whole ∷ []; added = [] }) (λ _. s) s))
 
 local_span : (env : Env) → env.context ≡ evaluated → (b : Before) (next : Next) (x : Ident) (m : MaybeInit) (r : Checked Object) → Holds (StmtSpan b (calls_of_maybe_init m) (held_by_object env m r)) (local env b next x m r)
 local_span env c b next x m r = by_part (new_name env x) r

@@ -52,13 +52,10 @@ begins_self xs = ([], sym (nothing_more xs))
 begins_on : (xs ys zs : List (List ℕ)) → Begins xs ys → Begins ys zs → Begins xs zs
 begins_on xs ys zs h k = (h.0 ++ k.0, k.1 ∙ (ap (λ v. v ++ k.0) h.1 ∙ append_assoc xs h.0 k.0))
 
-get_front : (xs zs : List (List ℕ)) (j : ℕ) (w : List ℕ) → slice_get xs j ≡ Some w → slice_get (xs ++ zs) j ≡ Some w
-get_front xs zs j w e = get_left xs zs j w e
-
 module _ (p : Program) (last : Env) (table : IsTable p last) (all : List (List ℕ)) (placed : (j : ℕ) (w : List ℕ) → slice_get all j ≡ Some w → IsStaticOf p true (length last.whole.objects + j) (string_type (length w))) where
   strings_here : (env : Env) → Follows env last → (b : Before) (ws : List (List ℕ)) → Begins (b.strings ++ ws) all → StringsIn p [] (string_number env b) ws
   strings_here env g b ws h j w e =
-      let got : slice_get all (length b.strings + j) ≡ Some w = ap (λ v. slice_get v (length b.strings + j)) h.1 ∙ get_front (b.strings ++ ws) h.0 (length b.strings + j) w (get_right b.strings ws j ∙ e) in
+      let got : slice_get all (length b.strings + j) ≡ Some w = ap (λ v. slice_get v (length b.strings + j)) h.1 ∙ get_left (b.strings ++ ws) h.0 (length b.strings + j) w (get_right b.strings ws j ∙ e) in
       let n : length last.whole.objects + (length b.strings + j) ≡ string_number env b + j = (let q : length last.whole.objects ≡ length env.whole.objects = ap (λ w. length w.objects) g.whole in omega (arith, q)) in
       subst (λ k. IsStaticOf p true k (string_type (length w))) n (placed (length b.strings + j) w got)
 

@@ -37,8 +37,6 @@ use Rattle.c_rules_laws.proofs.DefinedNames.{IsDefined, Defines}
 use Rattle.c_rules_laws.proofs.NamesOfItems.{gives_defined, items_give}
 use Rattle.c_rules_laws.proofs.UnitTable.{name_at, one_binding, no_binding, same_function}
 
--- ## Before all items
-
 -- ## Places of names
 
 some_is : (o : Option ℕ) → is_some o ≡ true → (i : ℕ) × (o ≡ Some i)
