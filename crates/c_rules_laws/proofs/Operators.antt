@@ -8,7 +8,7 @@ use Rattle.c_tree.specs.declared.value.UnOp.{UnOp}
 use Rattle.c_tree.specs.declared.value.UnOp.TheVariants.{Minus, Complement, Not}
 use Rattle.c_tree.specs.declared.value.BinOp.{BinOp}
 use Rattle.c_tree.specs.declared.value.BinOp.TheVariants.{Add, Sub}
-use Rattle.c_tree.specs.Tree.{CType, void, integer, pointer, array, struct, function, Expr, decay, address_of, unary_operation, and, or, assign}
+use Rattle.c_tree.specs.Tree.{CType, void, integer, pointer, array, struct, function, decay, address_of, unary_operation, and, or, assign}
 use Rattle.c_tree.specs.Layout.{cells, sizeof}
 use Rattle.c_tree.specs.Functions.{int}
 use Rattle.c_tree.specs.Operands.{IsPromoted, IsIntegerType, AreOperands, promoted, common, OperatorKind, balanced, shift, ordering, equality}
@@ -33,6 +33,9 @@ use Rattle.c_rules_laws.specs.RightScopes.{IsThing}
 use Rattle.c_rules_laws.proofs.Holding.{Holds, holds_map, either}
 use Rattle.c_rules_laws.proofs.MadeTypes.{type_is}
 use Rattle.c_rules_laws.proofs.Alike.{Alike, alike, on_alike, gives_alike, demand_alike, and_alike, fault_alike, Agree, fine_agree, fault_agree, demand_agree, behind_agree, if_agree}
+use Rattle.c_tree.specs.Tree as typed
+use Rattle.c_syntax.specs.Tree.{Expr, a_name}
+use Rattle.c_rules.specs.Expressions.{callee_meant, callee_bound, callee}
 
 -- ## Types of operands
 
@@ -78,6 +81,25 @@ bound_alike env at to x (Some b) = meant_alike env at to x b.means
 pub named_alike : (env : Env) (at to : ℕ) (x : Name) → Alike TypedExpression (named_expression env at x) (named_expression env to x)
 named_alike env at to x = bound_alike env at to x (binding_of env x)
 
+-- what holds of what a name means holds of the name
+pub bound_holds : (P : TypedExpression → Type 0) (env : Env) (at : ℕ) (x : Name) (o : Option Binding) → ((b : Binding) → o ≡ Some b → Holds P (meant env at x b.means)) → Holds P (bound env at x o)
+bound_holds P env at x None h = tt
+bound_holds P env at x (Some b) h = h b refl
+
+-- a callee is a value, or a name that means a function
+pub callee_holds : (P : Expr → Callee → Type 0) (env : Env) (at : ℕ) (d : Expr) (r : Checked TypedExpression) → Holds (P d) (on r (callee_by_value at))
+    → ((place : ℕ) (x : Name) (b : Binding) (t : CType) (defined : Bool) → binding_of env x ≡ Some b → b.means ≡ a_function t defined → Holds (P (a_name place x)) (callee_by_name env place x t)) → Holds (P d) (callee env at d r)
+callee_holds P env at (a_name place x) r h k = by_binding (binding_of env x) refl
+  where
+    by_meaning : (b : Binding) → binding_of env x ≡ Some b → (m : Meaning) → b.means ≡ m → Holds (P (a_name place x)) (callee_meant env at place x r m)
+    by_meaning b e (a_function t d) q = k place x b t d e q
+    by_meaning b e m q = h
+
+    by_binding : (o : Option Binding) → binding_of env x ≡ o → Holds (P (a_name place x)) (callee_bound env at place x r o)
+    by_binding None e = h
+    by_binding (Some b) e = by_meaning b e b.means refl
+callee_holds P env at d r h k = h
+
 pub few_cells_alike : (at to n : ℕ) → Alike Met (few_cells at n) (few_cells to n)
 few_cells_alike at to n = demand_alike (nat_le n 65536) C13 at to met
 
@@ -122,7 +144,7 @@ valued_alike env at to g = valued_as_alike env at to g g.ctype
 pub assigned_alike : (at to : ℕ) (t : CType) (g : TypedExpression) → Alike TypedExpression (as_if_assigned at t g) (as_if_assigned to t g)
 assigned_alike at to t g = demand_alike (fits t g) C3 at to (assigned t g)
 
-pub condition_alike : (at to : ℕ) (g : TypedExpression) → Alike Expr (condition at g) (condition to g)
+pub condition_alike : (at to : ℕ) (g : TypedExpression) → Alike typed.Expr (condition at g) (condition to g)
 condition_alike at to g = demand_alike (is_scalar g.ctype) C3 at to (tree_of g)
 
 -- ## Calls and members
@@ -143,7 +165,7 @@ pub callee_by_name_alike : (env : Env) (at to : ℕ) (x : Name) (t : CType) → 
 callee_by_name_alike env at to x t =
     on_alike (callee_of_type at t) (callee_of_type to t) (used_alike env.context at to (function_number env x)) (λ f _. callee_of_type_alike at to t f)
 
-callee_through_alike : (at to : ℕ) (e : Expr) (t : CType) → Alike Callee (callee_through at e t) (callee_through to e t)
+callee_through_alike : (at to : ℕ) (e : typed.Expr) (t : CType) → Alike Callee (callee_through at e t) (callee_through to e t)
 callee_through_alike at to e (pointer (function t ts)) = alike (callee_through at e (pointer (function t ts)))
 callee_through_alike at to e t = fault_alike C3 at to
 
@@ -184,8 +206,8 @@ module _ (env : Env) (at to : ℕ) (x : Name) (g : TypedExpression) where
 
 -- the address of a place, or the pointer that leads to it
 pub data IsAddress (g : TypedExpression) : TypedExpression → Type 0 where
-  of_place : (e : Expr) → g.form ≡ a_place e → NotArray g.ctype → IsAddress g (typed_value (pointer g.ctype) (address_of (pointer g.ctype) e) g.constant)
-  of_leader : (q : Expr) → g.form ≡ behind q → NotArray g.ctype → IsAddress g (typed_value (pointer g.ctype) q g.constant)
+  of_place : (e : typed.Expr) → g.form ≡ a_place e → NotArray g.ctype → IsAddress g (typed_value (pointer g.ctype) (address_of (pointer g.ctype) e) g.constant)
+  of_leader : (q : typed.Expr) → g.form ≡ behind q → NotArray g.ctype → IsAddress g (typed_value (pointer g.ctype) q g.constant)
 
 -- what a pointer leads to
 pub data IsLedTo (g : TypedExpression) : TypedExpression → Type 0 where

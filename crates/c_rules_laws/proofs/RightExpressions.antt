@@ -38,6 +38,7 @@ use Rattle.c_rules_laws.proofs.TypesOfExpressions.{Sized, CalleeTyped, type_name
 use Rattle.c_rules_laws.proofs.RightTypedExpressions.{complete_in, cells_in, static_address_right, static_right, TypedExpressionRight, ValueRight, ValuesRight, valued_right}
 use Rattle.c_rules_laws.proofs.RightRules.{CalleeRight, called_right, callee_type_right, callee_through_right, member_right, address_right, indirection_right, unary_right, number_right, size_right, cast_of_right, null_cast_right, SumRight, operation_right, conjunction_right, disjunction_right, choice_right, assignment_by_right, step_right, comma_right}
 pub use Rattle.c_rules.proofs.BelowUnits.{number_below}
+use Rattle.c_rules_laws.proofs.Operators.{bound_holds, callee_holds}
 
 -- ## Numbers of names
 
@@ -84,10 +85,6 @@ module _ (p : Program) (vars : List CType) where
   meant_right env r at x (an_enumerator z) h = (refl, h, tt, h)
   meant_right env r at x (unknown f fs) h = tt
 
-  bound_right : (env : Env) → IsRight p vars env → (at : ℕ) (x : Name) (o : Option Binding) → ((b : Binding) → o ≡ Some b → MeaningRight p vars env x b.means) → Holds (TypedExpressionRight p vars) (bound env at x o)
-  bound_right env r at x None h = tt
-  bound_right env r at x (Some b) h = meant_right env r at x b.means (h b refl)
-
   integer_right : (n : ℕ) (u : Bool) → n < 4294967296 → TypedExpressionRight p vars (integer_expression n u)
   integer_right n u h = integer_cases (TypedExpressionRight p vars) n u (λ l. (let c : IsConstant int (v.Int (pos n)) = (refl, grind (arith, l)) in (refl, c, tt, c))) (number_right p vars n h)
 
@@ -132,21 +129,11 @@ module _ (p : Program) (vars : List CType) where
       on_holds (λ g. IsSized (layout_of env) g.ctype × TypedExpressionRight p vars g) (PlaceBoth env) r (assignable place) (holds_two (Sized env) (TypedExpressionRight p vars) r h k)
       (λ g l. demand_holds (PlaceBoth env) (is_place g) 4 place g (λ e. (l.0, (l.1, e))))
 
-  by_value_right : (env : Env) (at : ℕ) (r : Checked TypedExpression) → Holds (ValueBoth env) r → Holds (CalleeRight p vars) (on r (callee_by_value at))
-  by_value_right env at r h = on_holds (ValueBoth env) (CalleeRight p vars) r (callee_by_value at) h (λ g k. callee_through_right p vars at _ g.ctype k.1.0 k.1.1)
-
-  callee_meant_right : (env : Env) → IsRight p vars env → (at place : ℕ) (x : Name) (r : Checked TypedExpression) (m : Meaning) → MeaningRight p vars env x m → Holds (ValueBoth env) r → Holds (CalleeRight p vars) (callee_meant env at place x r m)
-  callee_meant_right env w at place x r (a_function t d) h k =
-      on_holds (λ n. function_number env x ≡ Some n) (CalleeRight p vars) (used env.context place (function_number env x)) (callee_of_type place t) (used_right env.context w.runs place (function_number env x)) (λ f e. callee_type_right p vars place t f (h.1 f e))
-  callee_meant_right env w at place x r m h k = by_value_right env at r k
-
-  callee_bound_right : (env : Env) → IsRight p vars env → (at place : ℕ) (x : Name) (r : Checked TypedExpression) (o : Option Binding) → ((b : Binding) → o ≡ Some b → MeaningRight p vars env x b.means) → Holds (ValueBoth env) r → Holds (CalleeRight p vars) (callee_bound env at place x r o)
-  callee_bound_right env w at place x r None h k = by_value_right env at r k
-  callee_bound_right env w at place x r (Some b) h k = callee_meant_right env w at place x r b.means (h b refl) k
-
   callee_right : (env : Env) → IsRight p vars env → (at : ℕ) (d : Expr) (r : Checked TypedExpression) → Holds (ValueBoth env) r → Holds (CalleeRight p vars) (callee env at d r)
-  callee_right env w at (a_name place x) r h = callee_bound_right env w at place x r (binding_of env x) (w.meanings x) h
-  callee_right env w at d r h = by_value_right env at r h
+  callee_right env w at d r h =
+      callee_holds (λ _. CalleeRight p vars) env at d r (on_holds (ValueBoth env) (CalleeRight p vars) r (callee_by_value at) h (λ g k. callee_through_right p vars at _ g.ctype k.1.0 k.1.1))
+      (λ place x b t d q m. (let k : MeaningRight p vars env x (a_function t d) = subst (MeaningRight p vars env x) m (w.meanings x b q) in
+      on_holds (λ n. function_number env x ≡ Some n) (CalleeRight p vars) (used env.context place (function_number env x)) (callee_of_type place t) (used_right env.context w.runs place (function_number env x)) (λ f e. callee_type_right p vars place t f (k.1 f e))))
 
   member_at : (env : Env) → IsRight p vars env → (at : ℕ) (x : Name) (g : TypedExpression) → TypedExpressionRight p vars g → Holds (TypedExpressionRight p vars) (member_of env at x g)
   member_at env w at x g h = member_right p vars env w.within number_below as_long at x g h
@@ -182,7 +169,7 @@ module _ (p : Program) (vars : List CType) where
 
   mutual
     pub tree_right : (x : Expr) (env : Env) → IsRight p vars env → IsLexical x → (b : Before) → StringsIn p vars (string_number env b) (strings x) → Holds (TypedExpressionRight p vars) (tree env b x)
-    tree_right (a_name at x) env w l b s = bound_right env w at x (binding_of env x) (w.meanings x)
+    tree_right (a_name at x) env w l b s = bound_holds (TypedExpressionRight p vars) env at x (binding_of env x) (λ c e. meant_right env w at x c.means (w.meanings x c e))
     tree_right (an_int at n u) env w l b s = integer_right n u (constant_below n u l)
     tree_right (a_char at c) env w l b s = (let k : IsConstant int (v.Int c) = (refl, grind (arith, l)) in (refl, k, tt, k))
     tree_right (a_str at t) env w l b s = string_right env w at b t s

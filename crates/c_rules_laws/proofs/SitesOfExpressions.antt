@@ -17,7 +17,7 @@ use Rattle.c_rules.specs.Counts.{place_of, calls, calls_of_all, strings, strings
 use Rattle.c_rules.specs.TypedExpression.{TypedExpression}
 use Rattle.c_rules.specs.Conversions.{valued}
 use Rattle.c_rules.specs.PrimaryExpressions.{used, object_number, function_number, function_value_number, typed_int, meant, bound, integer_expression, string_fits, string_number, typed_string}
-use Rattle.c_rules.specs.PostfixExpressions.{Designator, direct, through, site_in, site_of, callee_of_type, callee_by_value, called, member_of}
+use Rattle.c_rules.specs.PostfixExpressions.{Designator, direct, through, site_in, site_of, callee_of_type, callee_by_value, called, member_of, Callee}
 use Rattle.c_rules.specs.UnaryExpressions.{address, indirection, unary_of_value, size_of, size_of_expression, size_of_type, cast_of, null_cast}
 use Rattle.c_rules.specs.BinaryExpressions.{operator_of_code, sum, choice}
 use Rattle.c_rules.specs.Assignments.{assignable, assignment_by, step, comma_of}
@@ -27,6 +27,7 @@ use Rattle.c_rules.proofs.Integers.{integer_cases}
 use Rattle.c_rules_laws.proofs.Holding.{Holds, holds_map, holds_two, on_holds, both_hold, all_three_hold, Any, anything, demand_holds, after_part, if_holds, Each, each_both}
 use Rattle.c_rules_laws.proofs.GatheredOfTypedExpressions.{called_at, Gathers, AllGather, CalleeGathers, valued_gathered, called_gathered, callee_type_gathered, callee_through_gathered, member_gathered, address_gathered, indirection_gathered, unary_gathered, size_gathered, cast_of_gathered, null_cast_gathered, sum_gathered, operation_gathered, conjunction_gathered, disjunction_gathered, assignment_by_gathered, step_gathered, choice_gathered, comma_gathered}
 use Rattle.c_tree.specs.Sites.{all_sites}
+use Rattle.c_rules_laws.proofs.Operators.{bound_holds, callee_holds}
 
 -- a call gives its site
 site_called : (site : ℕ) (d : Designator) → called_at all_sites site d ≡ site
@@ -89,10 +90,6 @@ meant_sites env at x (a_function t d) = after_part (Gathers all_sites []) (funct
 meant_sites env at x (unknown f fs) = tt
 meant_sites env at x m = (refl, λ _. refl)
 
-bound_sites : (env : Env) (at : ℕ) (x : Name) (o : Option Binding) → Holds (Gathers all_sites []) (bound env at x o)
-bound_sites env at x None = tt
-bound_sites env at x (Some b) = meant_sites env at x b.means
-
 integer_sites : (n : ℕ) (u : Bool) → Gathers all_sites [] (integer_expression n u)
 integer_sites n u = integer_cases (Gathers all_sites []) n u (λ _. (refl, λ _. refl)) (refl, λ _. refl)
 
@@ -131,36 +128,14 @@ two_parts b n m xs ys p q k h g f =
     (λ x y v w. holds_with (Gathers all_sites (Span b (n + m))) (FitsAt b (n + m) (xs ++ ys)) (k x y) (fits_both b.sites b.cells n m xs ys v.1 w.1)
     (subst (λ zs. Holds (Gathers all_sites zs) (k x y)) (sym (range_append b.sites n m)) (f x y v.0 w.0)))
 
-by_value_sites : (at : ℕ) (xs : List ℕ) (r : Checked TypedExpression) → Holds (Gathers all_sites xs) r → Holds (CalleeGathers all_sites xs) (on r (callee_by_value at))
-by_value_sites at xs r h = on_holds (Gathers all_sites xs) (CalleeGathers all_sites xs) r (callee_by_value at) h (λ g k. callee_through_gathered all_sites at xs _ g.ctype k.0)
+abbrev CalleeCounted : Before → Expr → Callee → Type 0
+CalleeCounted b d f = CalleeGathers all_sites (Span b (calls d)) f × FitsAt b (calls d) (strings d)
 
-callee_meant_sites : (env : Env) (at place : ℕ) (x : Name) (r : Checked TypedExpression) (m : Meaning) → Holds (Gathers all_sites []) r → Holds (CalleeGathers all_sites []) (callee_meant env at place x r m)
-callee_meant_sites env at place x r (a_function t d) h = after_part (CalleeGathers all_sites []) (used env.context place (function_number env x)) (callee_of_type place t) (λ f. callee_type_gathered all_sites place t f)
-callee_meant_sites env at place x r m h = by_value_sites at [] r h
-
-callee_bound_sites : (env : Env) (at place : ℕ) (x : Name) (r : Checked TypedExpression) (o : Option Binding) → Holds (Gathers all_sites []) r → Holds (CalleeGathers all_sites []) (callee_bound env at place x r o)
-callee_bound_sites env at place x r None h = by_value_sites at [] r h
-callee_bound_sites env at place x r (Some b) h = callee_meant_sites env at place x r b.means h
-
-callee_sites : (env : Env) (b : Before) (at : ℕ) (d : Expr) (r : Checked TypedExpression) → Holds (Gathers all_sites (Span b (calls d))) r → Holds (CalleeGathers all_sites (Span b (calls d))) (callee env at d r)
-callee_sites env b at (a_name place x) r h = callee_bound_sites env at place x r (binding_of env x) h
-callee_sites env b at d r h = by_value_sites at _ r h
-
--- what holds of a callee, and a fact that holds where its value is fine
-fact_of : {A : Type 0} (P : A → Type 0) (Q : Type 0) (r : Checked A) → Holds (λ a. P a × Q) r → Holds (λ _. Q) r
-fact_of P Q r h = holds_map (λ a. P a × Q) (λ _. Q) (λ a k. k.1) r h
-
-by_value_fact : (at : ℕ) (Q : Type 0) (r : Checked TypedExpression) → Holds (λ _. Q) r → Holds (λ _. Q) (on r (callee_by_value at))
-by_value_fact at Q r h = on_holds (λ _. Q) (λ _. Q) r (callee_by_value at) h (λ g q. holds_map Any (λ _. Q) (λ _ _. q) (callee_by_value at g) (anything (callee_by_value at g)))
-
-no_calls_fit : (env : Env) (b : Before) (at : ℕ) (d : Expr) (r : Checked TypedExpression) → Holds (λ _. FitsAt b (calls d) (strings d)) r → Holds (λ _. FitsAt b (calls d) (strings d)) (callee env at d r)
-no_calls_fit env b at (a_name place x) r h = holds_map Any (λ _. FitsAt b 0 []) (λ _ _. fits_none b.sites b.cells) (callee env at (a_name place x) r) (anything (callee env at (a_name place x) r))
-no_calls_fit env b at d r h = by_value_fact at _ r h
-
-callee_counted : (env : Env) (b : Before) (at : ℕ) (d : Expr) (r : Checked TypedExpression) → Holds (Counted b (calls d) (strings d)) r → Holds (λ f. CalleeGathers all_sites (Span b (calls d)) f × FitsAt b (calls d) (strings d)) (callee env at d r)
+callee_counted : (env : Env) (b : Before) (at : ℕ) (d : Expr) (r : Checked TypedExpression) → Holds (Counted b (calls d) (strings d)) r → Holds (CalleeCounted b d) (callee env at d r)
 callee_counted env b at d r h =
-    holds_two (CalleeGathers all_sites (Span b (calls d))) (λ _. FitsAt b (calls d) (strings d)) (callee env at d r) (callee_sites env b at d r (holds_map (Counted b (calls d) (strings d)) (Gathers all_sites (Span b (calls d))) (λ g k. k.0) r h))
-    (no_calls_fit env b at d r (fact_of (Gathers all_sites (Span b (calls d))) (FitsAt b (calls d) (strings d)) r h))
+    callee_holds (CalleeCounted b) env at d r
+    (on_holds (Counted b (calls d) (strings d)) (CalleeCounted b d) r (callee_by_value at) h (λ g k. holds_with (CalleeGathers all_sites (Span b (calls d))) (FitsAt b (calls d) (strings d)) (callee_by_value at g) k.1 (callee_through_gathered all_sites at (Span b (calls d)) _ g.ctype k.0.0)))
+    (λ place x c t e _ _. after_part (CalleeCounted b (a_name place x)) (used env.context place (function_number env x)) (callee_of_type place t) (λ f. holds_with (CalleeGathers all_sites []) (FitsAt b 0 []) (callee_of_type place t f) (fits_none b.sites b.cells) (callee_type_gathered all_sites place t f)))
 
 access_counted : (env : Env) (at place : ℕ) (how : Access) (x : Name) (b : Before) (n : ℕ) (ws : List (List ℕ)) (r : Checked TypedExpression) → Holds (Counted b n ws) r → Holds (Counted b n ws) (access env at place how x r)
 access_counted env at place dot x b n ws r h = one_part b n ws r (member_of env at x) h (λ g k. member_gathered all_sites env at (Span b n) x g k)
@@ -198,7 +173,7 @@ call_fits s c n m xs ys h l k =
 
 mutual
   pub tree_counted : (x : Expr) (env : Env) → env.context ≡ evaluated → (b : Before) → Holds (Counted b (calls x) (strings x)) (tree env b x)
-  tree_counted (a_name at x) env e b = holds_with (Gathers all_sites []) (FitsAt b 0 []) (bound env at x (binding_of env x)) (fits_none b.sites b.cells) (bound_sites env at x (binding_of env x))
+  tree_counted (a_name at x) env e b = holds_with (Gathers all_sites []) (FitsAt b 0 []) (bound env at x (binding_of env x)) (fits_none b.sites b.cells) (bound_holds (Gathers all_sites []) env at x (binding_of env x) (λ c _. meant_sites env at x c.means))
   tree_counted (an_int at n u) env e b = plain_counted b (integer_expression n u) (integer_sites n u)
   tree_counted (a_char at c) env e b = plain_counted b (typed_int c) (refl, λ _. refl)
   tree_counted (a_str at w) env e b = string_counted env.context e at (string_number env b) b w
@@ -208,7 +183,7 @@ mutual
       after_part (Counted b 0 []) (type_named env t) (size_of_type env at (place_of_type t)) (λ u. holds_with (Gathers all_sites []) (FitsAt b 0 []) (size_of env at (place_of_type t) u) (fits_none b.sites b.cells) (size_gathered all_sites env at (place_of_type t) u))
   tree_counted (cast at t x) env e b = cast_rule_counted (is_void_pointer t) at (type_named env t) b (calls x) (strings x) (value_at env (place_of x) (tree env b x)) (value_at_counted env (place_of x) b (calls x) (strings x) (tree env b x) (tree_counted x env e b))
   tree_counted (call at d es) env e b =
-      all_three_hold (λ f. CalleeGathers all_sites (Span b (calls d)) f × FitsAt b (calls d) (strings d)) (λ k. (k ≡ b.sites + calls d) × (suc (b.sites + calls d) ≤ 30000)) (λ gs. AllGather all_sites (Span (after_designator b d) (calls_of_all es)) gs × FitsAt (after_designator b d) (calls_of_all es) (strings_of_all es)) (Counted b (calls d + suc (calls_of_all es)) (strings d ++ strings_of_all es))
+      all_three_hold (CalleeCounted b d) (λ k. (k ≡ b.sites + calls d) × (suc (b.sites + calls d) ≤ 30000)) (λ gs. AllGather all_sites (Span (after_designator b d) (calls_of_all es)) gs × FitsAt (after_designator b d) (calls_of_all es) (strings_of_all es)) (Counted b (calls d + suc (calls_of_all es)) (strings d ++ strings_of_all es))
       (callee env at d (value_at env (place_of d) (tree env b d))) (site_of env (b.sites + calls d) at) (trees env (after_designator b d) es) (called at)
       (callee_counted env b at d (value_at env (place_of d) (tree env b d)) (value_at_counted env (place_of d) b (calls d) (strings d) (tree env b d) (tree_counted d env e b)))
       (site_counted env.context e env.whole.mode (b.sites + calls d) at)

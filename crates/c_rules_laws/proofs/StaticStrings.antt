@@ -1,5 +1,5 @@
 -- Strings that pass no limit are static objects, whose cells are chars.
-use Rattle.std.proofs.Common.{◌≡◌, ℕ, zero, suc, ◌≤◌, pos, List, [], ◌∷◌, ◌++◌, All, map, length, refl, ap, sym, subst, arith}
+use Rattle.std.proofs.Common.{◌≡◌, ℕ, zero, suc, ◌≤◌, pos, List, [], ◌∷◌, ◌++◌, All, map, length, refl, ap, sym, subst, arith, ◌*◌}
 use Rattle.std.specs.List.{AllZip}
 use Rattle.std.proofs.lemmas.List.Elements.{All-nil, All-cons}
 use Rattle.c_tree.specs.declared.value.IntType.TheVariants.{Char}
@@ -13,10 +13,7 @@ use Rattle.c_rules.specs.Initialisers.{typed_char, value_of_cell}
 use Rattle.c_rules.specs.Units.{static_string}
 use Rattle.c_rules_laws.proofs.RightTypedExpressions.{constant_value}
 use Rattle.c_rules_laws.proofs.SitesOfExpressions.{AreShort}
-
-copies_long : (n : ℕ) (t : CType) → length (repeat n (t ∷ [])) ≡ n
-copies_long zero t = refl
-copies_long (suc n) t = ap suc (copies_long n t)
+use Rattle.c_meaning_laws.proofs.Places.{length_repeat}
 
 module _ (p : Program) where
   char_typed : (c : ℕ) → HasType p (static_objects p) (integer Char) (value_of_cell (typed_char c))
@@ -28,7 +25,7 @@ module _ (p : Program) where
 
   string_static : (w : List ℕ) → suc (length w) ≤ 65536 → IsStatic p (static_string w)
   string_static w l = record {
-    object = record { complete = (omega arith, tt); few = subst (λ n. n ≤ 65536) (sym (copies_long (suc (length w)) (integer Char))) l };
+    object = record { complete = (omega arith, tt); few = (let r = length_repeat (suc (length w)) (integer Char ∷ []) in let m : suc (length w) * 1 ≤ 65536 = omega (arith, l) in subst (λ n. n ≤ 65536) (sym r) m) };
     typed = string_typed w;
   }
 

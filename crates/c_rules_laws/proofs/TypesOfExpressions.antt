@@ -33,6 +33,7 @@ use Rattle.c_rules_laws.specs.RightScopes.{MeaningTyped, IsKnown}
 use Rattle.c_rules_laws.proofs.Holding.{Holds, on_holds, both_hold, all_three_hold, Any, anything, demand_holds, behind_demand, after_part, if_holds}
 use Rattle.c_rules_laws.proofs.MadeTypes.{scalar_is, result_is, few_unless_array, complete_known}
 use Rattle.c_rules_laws.proofs.TypesOfTypedExpressions.{TypedExpressionSized, TypedExpressionTyped, TypedExpressionsTyped, IsCalleeTyped, sized_int, valued_typed, called_typed, callee_type, callee_through_typed, address_typed, indirection_typed, unary_typed, cast_typed, null_cast_typed, operation_typed, conjunction_typed, disjunction_typed, choice_typed, assignable_typed, assignment_by_typed, step_typed, comma_typed, member_typed}
+use Rattle.c_rules_laws.proofs.Operators.{bound_holds, callee_holds}
 
 -- ## Declarators
 
@@ -128,10 +129,6 @@ meant_typed env at x (a_function t d) h = after_part (Sized env) (function_value
 meant_typed env at x (an_enumerator z) h = sized_int (layout_of env) _
 meant_typed env at x (unknown f fs) h = tt
 
-bound_typed : (env : Env) (at : ℕ) (x : Name) (o : Option Binding) → ((b : Binding) → o ≡ Some b → MeaningTyped (layout_of env) b.means) → Holds (Sized env) (bound env at x o)
-bound_typed env at x None h = tt
-bound_typed env at x (Some b) h = meant_typed env at x b.means (h b refl)
-
 integer_typed : (structs : Structs) (n : ℕ) (u : Bool) → TypedExpressionSized structs (integer_expression n u)
 integer_typed structs n u = integer_cases (TypedExpressionSized structs) n u (λ _. sized_int structs _) (sized_int structs _)
 
@@ -147,20 +144,11 @@ place_at_typed env place r h = on_holds (Sized env) (Sized env) r (assignable pl
 abbrev pub CalleeTyped : Env → Callee → Type 0
 CalleeTyped env = IsCalleeTyped (layout_of env)
 
-by_value_typed : (env : Env) (at : ℕ) (r : Checked TypedExpression) → Holds (Typed env) r → Holds (CalleeTyped env) (on r (callee_by_value at))
-by_value_typed env at r h = on_holds (Typed env) (CalleeTyped env) r (callee_by_value at) h (λ g k. callee_through_typed (layout_of env) at _ g.ctype k.made)
-
-callee_meant_typed : (env : Env) (at place : ℕ) (x : Name) (r : Checked TypedExpression) (m : Meaning) → MeaningTyped (layout_of env) m → Holds (Typed env) r → Holds (CalleeTyped env) (callee_meant env at place x r m)
-callee_meant_typed env at place x r (a_function t d) h k = after_part (CalleeTyped env) (used env.context place (function_number env x)) (callee_of_type place t) (λ f. callee_type (layout_of env) place t f h.0)
-callee_meant_typed env at place x r m h k = by_value_typed env at r k
-
-callee_bound_typed : (env : Env) (at place : ℕ) (x : Name) (r : Checked TypedExpression) (o : Option Binding) → ((b : Binding) → o ≡ Some b → MeaningTyped (layout_of env) b.means) → Holds (Typed env) r → Holds (CalleeTyped env) (callee_bound env at place x r o)
-callee_bound_typed env at place x r None h k = by_value_typed env at r k
-callee_bound_typed env at place x r (Some b) h k = callee_meant_typed env at place x r b.means (h b refl) k
-
 pub callee_typed : (env : Env) → IsKnown env → (at : ℕ) (d : Expr) (r : Checked TypedExpression) → Holds (Typed env) r → Holds (CalleeTyped env) (callee env at d r)
-callee_typed env w at (a_name place x) r h = callee_bound_typed env at place x r (binding_of env x) (w.meanings x) h
-callee_typed env w at d r h = by_value_typed env at r h
+callee_typed env w at d r h =
+    callee_holds (λ _. CalleeTyped env) env at d r (on_holds (Typed env) (CalleeTyped env) r (callee_by_value at) h (λ g k. callee_through_typed (layout_of env) at _ g.ctype k.made))
+    (λ place x b t e q m. (let k : MeaningTyped (layout_of env) (a_function t e) = subst (MeaningTyped (layout_of env)) m (w.meanings x b q) in
+    after_part (CalleeTyped env) (used env.context place (function_number env x)) (callee_of_type place t) (λ f. callee_type (layout_of env) place t f k.0)))
 
 access_typed : (env : Env) → IsKnown env → (at place : ℕ) (how : Access) (x : Name) (r : Checked TypedExpression) → Holds (Sized env) (access env at place how x r)
 access_typed env w at place dot x r = after_part (Sized env) r (member_of env at x) (λ g. member_typed env w.sound at x g)
@@ -194,7 +182,7 @@ cast_rule_typed env false at t r = both_hold Any Any (Sized env) t r (cast_of at
 
 mutual
   pub tree_typed : (x : Expr) (env : Env) → IsKnown env → IsLexical x → (b : Before) → Holds (Sized env) (tree env b x)
-  tree_typed (a_name at x) env w l b = bound_typed env at x (binding_of env x) (w.meanings x)
+  tree_typed (a_name at x) env w l b = bound_holds (Sized env) env at x (binding_of env x) (λ c e. meant_typed env at x c.means (w.meanings x c e))
   tree_typed (an_int at n u) env w l b = integer_typed (layout_of env) n u
   tree_typed (a_char at c) env w l b = sized_int (layout_of env) _
   tree_typed (a_str at s) env w l b = after_part (Sized env) (string_fits env.context at b.cells (suc (length s))) _ (λ _. string_typed (layout_of env) (string_number env b) (length s) l)
