@@ -13,77 +13,47 @@ use Rattle.c_rules.specs.PostfixExpressions.{site_in, site_of, callee_of_type, c
 use Rattle.c_rules.specs.Declarators.{free_name, new_name}
 use Rattle.c_rules.specs.Expressions.{value_at, callee_meant, callee_bound}
 use Rattle.c_rules_laws.specs.TypedAlike.{AreUnreserved, MeanAlike, More, instrumented_scope, TypedAlike, beside}
-use Rattle.c_rules_laws.proofs.Leads.{Leads, same_leads, on_leads, both_leads, gives_leads, demand_leads, below_more}
-use Rattle.c_rules.proofs.ModeNames.{found_in}
+use Rattle.c_rules_laws.proofs.Leads.{Leads, same_leads, on_leads, both_leads, gives_leads, demand_leads, below_more, then_leads}
+use Rattle.c_rules.proofs.Modes.{ArePlain}
+use Rattle.c_rules.proofs.ModeNames.{found_plain, named_leads as twin_named_leads, site_leads as twin_site_leads, callee_bound_leads as twin_callee_leads}
 pub use Rattle.c_rules.proofs.ModeNames.{left, given_same, unreserved, may_more, name_leads, given_leads, free_name_plain, new_name_plain}
 
 abbrev pub right : Env → More → Env
 right env w = instrumented_scope env w
 
--- a name that is bound is not reserved
-pub found_plain : (bs : List Binding) (x : Name) → AreUnreserved bs → (b : Binding) → lookup bs x ≡ Some b → is_reserved x ≡ false
-found_plain [] x p b e = cc
-found_plain (c ∷ bs) x p b e = found_in (bytes_eq c.name x) c x (lookup bs x) b refl p.0 (found_plain bs x p.1 b) e
-
--- ## Given names
-
-pub function_number_same : (env : Env) (w : More) (x : Name) → is_reserved x ≡ false → function_number (right env w) x ≡ function_number (left env) x
-function_number_same env w x u = ap (λ o. number_or (number_among env.whole.functions x) (given_number (left env) o)) (given_same x u)
-
-used_leads : (env : Env) (w : More) (at : ℕ) (x : Name) → is_reserved x ≡ false → Leads (used env.context at (function_number (left env) x)) (used env.context at (function_number (right env w) x))
-used_leads env w at x u = subst (λ o. Leads (used env.context at (function_number (left env) x)) (used env.context at o)) (sym (function_number_same env w x u)) (same_leads _)
+plain : (bs : List Binding) → AreUnreserved bs → ArePlain bs
+plain [] p = tt
+plain (c ∷ bs) p = (p.0, plain bs p.1)
 
 -- ## Names as expressions
-
-meant_leads : (env : Env) (w : More) (at : ℕ) (x : Name) (m : Meaning) → is_reserved x ≡ false → Leads (meant (left env) at x m) (meant (right env w) at x m)
-meant_leads env w at x (a_static seen whole d) u = same_leads (meant (left env) at x (a_static seen whole d))
-meant_leads env w at x (a_function t d) u =
-    gives_leads (function_value_number (left env) at x) (function_value_number (right env w) at x) (typed_function t)
-    (on_leads (demand (if is_among null_calls x then false else true) C12 at met) (demand (if is_among null_calls x then false else true) C12 at met) (λ _. used env.context at (function_number (left env) x)) (λ _. used env.context at (function_number (right env w) x)) (same_leads _) (λ _ _. used_leads env w at x u))
-meant_leads env w at x (unknown f fs) u = tt
-meant_leads env w at x m u = (refl, tt)
 
 -- a name that is bound in a plain unit, and what it means in the instrumented one
 abbrev pub BoundAlike : (x : Name) (o q : Option Binding) → Type 0
 BoundAlike x o q = ((b : Binding) → o ≡ Some b → is_reserved x ≡ false) × (is_reserved x ≡ false → q ≡ o)
 
-bound_leads : (env : Env) (w : More) (at : ℕ) (x : Name) (o q : Option Binding) → BoundAlike x o q → Leads (bound (left env) at x o) (bound (right env w) at x q)
-bound_leads env w at x None q h = tt
-bound_leads env w at x (Some b) q h = subst (λ z. Leads (bound (left env) at x (Some b)) (bound (right env w) at x z)) (sym (h.1 (h.0 b refl))) (meant_leads env w at x b.means (h.0 b refl))
+-- a rule on what a name means leads where it means the same
+alike_leads : {A : Type 0} (F G : Option Binding → Checked A) (x : Name) (o q : Option Binding) → BoundAlike x o q → Leads (F None) (G q) → Leads (F o) (G o) → Leads (F o) (G q)
+alike_leads F G x None q h n k = n
+alike_leads F G x (Some b) q h n k = subst (λ z. Leads (F (Some b)) (G z)) (sym (h.1 (h.0 b refl))) k
 
 pub named_leads : (env : Env) (w : More) → AreUnreserved env.names → MeanAlike env.names w.names → (at : ℕ) (x : Name) → Leads (named_expression (left env) at x) (named_expression (right env w) at x)
-named_leads env w p m at x = bound_leads env w at x (lookup env.names x) (lookup w.names x) (found_plain env.names x p, m x)
+named_leads env w p m at x = alike_leads (bound (left env) at x) (bound (right env w) at x) x (lookup env.names x) (lookup w.names x) (found_plain env.names x (plain env.names p), m x) tt (twin_named_leads env (plain env.names p) at x)
 
 -- ## Calls
 
 pub site_leads : (env : Env) (w : More) (n at : ℕ) → Leads (site_of (left env) n at) (site_of (right env w) n at)
-site_leads env w n at = by_context env.context n at
-  where
-    by_context : (c : Context) (n at : ℕ) → Leads (site_in c 10000 n at) (site_in c 30000 n at)
-    by_context evaluated n at = demand_leads _ _ 13 at n (below_more n 10000 30000 (omega arith))
-    by_context sized n at = tt
-    by_context folded n at = (refl, tt)
-
-callee_meant_leads : (env : Env) (w : More) (at place : ℕ) (x : Name) (r s : Checked TypedExpression) (m : Meaning) → is_reserved x ≡ false → Leads r s → Leads (callee_meant (left env) at place x r m) (callee_meant (right env w) at place x s m)
-callee_meant_leads env w at place x r s (a_function t d) u h =
-    on_leads (used env.context place (function_number (left env) x)) (used env.context place (function_number (right env w) x)) (callee_of_type place t) (callee_of_type place t) (used_leads env w place x u) (λ f _. same_leads (callee_of_type place t f))
-callee_meant_leads env w at place x r s m u h = on_leads r s (callee_by_value at) (callee_by_value at) h (λ g _. same_leads (callee_by_value at g))
+site_leads env w n at = twin_site_leads env n at
 
 pub value_at_leads : (env : Env) (w : More) (place : ℕ) (r s : Checked TypedExpression) → Leads r s → Leads (value_at (left env) place r) (value_at (right env w) place s)
-value_at_leads env w place r s h = on_leads r s (valued (left env) place) (valued (right env w) place) h (λ g _. same_leads (valued (left env) place g))
+value_at_leads env w place r s h = then_leads r s (valued (left env) place) h
 
 -- a name as the designator of a call
-callee_bound_leads : (env : Env) (w : More) (at place : ℕ) (x : Name) (o q : Option Binding) → BoundAlike x o q
-    → Leads (callee_bound (left env) at place x (value_at (left env) place (bound (left env) place x o)) o) (callee_bound (right env w) at place x (value_at (right env w) place (bound (right env w) place x q)) q)
-callee_bound_leads env w at place x None q h = tt
-callee_bound_leads env w at place x (Some b) q h =
-    subst (λ z. Leads (callee_bound (left env) at place x (value_at (left env) place (bound (left env) place x (Some b))) (Some b)) (callee_bound (right env w) at place x (value_at (right env w) place (bound (right env w) place x z)) z)) (sym (h.1 (h.0 b refl)))
-    (callee_meant_leads env w at place x (value_at (left env) place (meant (left env) place x b.means)) (value_at (right env w) place (meant (right env w) place x b.means)) b.means (h.0 b refl)
-    (value_at_leads env w place (meant (left env) place x b.means) (meant (right env w) place x b.means) (meant_leads env w place x b.means (h.0 b refl))))
-
 pub named_callee_leads : (env : Env) (w : More) → AreUnreserved env.names → MeanAlike env.names w.names → (at place : ℕ) (x : Name)
     → Leads (callee_bound (left env) at place x (value_at (left env) place (named_expression (left env) place x)) (lookup env.names x)) (callee_bound (right env w) at place x (value_at (right env w) place (named_expression (right env w) place x)) (lookup w.names x))
-named_callee_leads env w p m at place x = callee_bound_leads env w at place x (lookup env.names x) (lookup w.names x) (found_plain env.names x p, m x)
+named_callee_leads env w p m at place x =
+    alike_leads (λ o. callee_bound (left env) at place x (value_at (left env) place (bound (left env) place x o)) o) (λ o. callee_bound (right env w) at place x (value_at (right env w) place (bound (right env w) place x o)) o) x (lookup env.names x) (lookup w.names x) (found_plain env.names x (plain env.names p), m x) tt
+    (twin_callee_leads env at place x (value_at (left env) place (bound (left env) place x (lookup env.names x))) (value_at (right env w) place (bound (right env w) place x (lookup env.names x))) (lookup env.names x) (found_plain env.names x (plain env.names p))
+    (value_at_leads env w place (bound (left env) place x (lookup env.names x)) (bound (right env w) place x (lookup env.names x)) (twin_named_leads env (plain env.names p) place x)))
 
 -- ## Declared names
 
