@@ -22,7 +22,7 @@ use Rattle.c_rules.specs.Assignments.{assignable, assignment_by, step, comma_of}
 use Rattle.c_rules.specs.Declarators.{name_of, place_or, place_of_type, is_void_spec, is_bare_pointer, is_void_pointer, array_of, function_of, parameter_of, array_size, behind_parameter}
 use Rattle.c_rules.specs.Expressions.{value_at, place_at, callee_meant, callee_bound, callee, access, after_operand, before_operand, unary_rule, infix_rule, cast_rule, tree, trees, type_named, declared, size_in, parameters, value, folded_value, type_declared, type_of_parameter}
 use Rattle.c_rules_laws.proofs.Alike.{Alike, alike, on_alike, gives_alike, both_alike, three_alike, by_test}
-use Rattle.c_rules_laws.proofs.Operators.{named_alike, string_alike, valued_alike, site_alike, callee_by_name_alike, callee_by_value_alike, called_alike, member_agrees, address_agrees, indirection_agrees, unary_agrees, size_alike, cast_alike, null_cast_alike, operation_agrees, conjunction_alike, disjunction_alike, choice_agrees, assignable_alike, assignment_agrees, step_agrees}
+use Rattle.c_rules_laws.proofs.Operators.{named_alike, string_alike, valued_alike, site_alike, callee_by_name_alike, callee_by_value_alike, called_alike, member_agrees, address_agrees, indirection_agrees, unary_agrees, size_alike, cast_alike, null_cast_alike, operation_agrees, infix_agrees, choice_agrees, assignable_alike, assignment_agrees, step_agrees}
 use Rattle.c_rules_laws.proofs.Declared.{spec_alike, pointer_alike, array_alike, function_alike, parameter_alike, array_size_alike, with_name_alike, behind_parameter_same}
 
 -- ## Counts
@@ -115,11 +115,6 @@ unary_alike env at to here yonder op r s h =
     (on_alike (address at here) (address to yonder) h (λ g _. (address_agrees at to g here yonder).same))
     (on_alike (unary_of_value at op) (unary_of_value to op) (value_at_alike env here yonder r s h) (λ g _. (unary_agrees at to g op).same))
 
-infix_alike : (env : Env) (at to : ℕ) (op : Infix) (a b : TypedExpression) → Alike TypedExpression (infix_rule env at op a b) (infix_rule env to op a b)
-infix_alike env at to and a b = conjunction_alike at to a b
-infix_alike env at to or a b = disjunction_alike at to a b
-infix_alike env at to (operator code) a b = (operation_agrees env at to a b (operator_of_code code)).same
-
 casts_alike : (v : Bool) (at to : ℕ) (t u : Checked CType) (r s : Checked TypedExpression) → Alike CType t u → Alike TypedExpression r s → Alike TypedExpression (cast_rule v at t r) (cast_rule v to u s)
 casts_alike true at to t u r s h k = on_alike (null_cast at) (null_cast to) k (λ g _. null_cast_alike at to g)
 casts_alike false at to t u r s h k = both_alike r s (cast_of at) (cast_of to) h (λ _ _. k) (λ a g. cast_alike at to a g)
@@ -170,7 +165,7 @@ mutual
       (λ g _. (indirection_agrees at 0 g).same)
   tree_alike env b c h (binary at op x y) =
       both_alike (value env (after b x) y) (value env (after c (unplaced x)) (unplaced y)) (infix_rule env at op) (infix_rule env 0 op) (value_of env b c x (tree_alike env b c h x))
-      (λ _ _. value_of env (after b x) (after c (unplaced x)) y (tree_alike env (after b x) (after c (unplaced x)) (after_same b c x h) y)) (λ p q. infix_alike env at 0 op p q)
+      (λ _ _. value_of env (after b x) (after c (unplaced x)) y (tree_alike env (after b x) (after c (unplaced x)) (after_same b c x h) y)) (λ p q. (infix_agrees env at 0 p q op).same)
   tree_alike env b c h (assign at op x y) =
       both_alike (value env (after b x) y) (value env (after c (unplaced x)) (unplaced y)) (assignment_by env at op) (assignment_by env 0 op)
       (place_at_alike (place_of x) (place_of (unplaced x)) (tree env b x) (tree env c (unplaced x)) (tree_alike env b c h x))

@@ -25,9 +25,11 @@ use Rattle.c_rules.proofs.NothingMore.{nothing_more}
 use Rattle.c_rules.proofs.Integers.{size_holds}
 use Rattle.c_rules_laws.proofs.Holding.{Holds, holds_map, demand_holds, behind_demand, and_right, either}
 use Rattle.c_rules_laws.proofs.MadeTypes.{number_is}
-use Rattle.c_rules_laws.proofs.Operators.{IsMember, a_member, IsAddress, of_place, of_leader, IsLedTo, led, OfOne, leads, promotes, operates, negates, ArePointers, as_given, left_null, right_null, OfTwo, calculates, compares, orders, equals, adds_right, adds_left, takes, differs, OfChoice, integers_chosen, pointers_chosen, voids_chosen, OfUpdate, assigns, updates, moved, member_agrees, address_agrees, indirection_agrees, unary_agrees, operation_agrees, choice_agrees, assignment_agrees, step_agrees}
+use Rattle.c_rules_laws.proofs.Operators.{IsMember, a_member, IsAddress, of_place, of_leader, IsLedTo, led, OfOne, leads, promotes, operates, negates, ArePointers, as_given, left_null, right_null, OfTwo, calculates, compares, orders, equals, adds_right, adds_left, takes, differs, OfChoice, integers_chosen, pointers_chosen, voids_chosen, OfUpdate, assigns, updates, moved, member_agrees, address_agrees, indirection_agrees, unary_agrees, operation_agrees, choice_agrees, assignment_agrees, step_agrees, infix_agrees, joins_and, joins_or}
 use Rattle.c_rules_laws.specs.ConstantForm.{IsConst}
 use Rattle.c_rules_laws.proofs.ConstantForms.{converted_const, unary_const, integer_const, decayed_const, member_const, binary_const, and_const, or_const, conditional_const, moved_const, zero_const}
+use Rattle.c_syntax.specs.Tree.{Infix}
+use Rattle.c_rules.specs.Expressions.{infix_rule}
 
 pub none_both : {X : Type 0} (xs ys : List X) → xs ≡ [] → ys ≡ [] → xs ++ ys ≡ []
 none_both xs ys e f = ap₂ (λ x y. x ++ y) e f
@@ -181,6 +183,9 @@ module _ {X : Type 0} (gathering : Gathering X) where
     pointers_gathered a b x y (left_null t e n) g h = (null_gathered xs b.ctype a n g, h)
     pointers_gathered a b x y (right_null t e n) g h = (g, null_gathered ys a.ctype b n h)
 
+    two_parts : (a b : TypedExpression) (f : Constant → Constant → Constant) → ((c d : Constant) → IsConst (f c d) → IsConst c × IsConst d) → IsConst (f (integer_constant a) (integer_constant b)) → IsConst a.constant × IsConst b.constant
+    two_parts a b f k h = (let w = k (integer_constant a) (integer_constant b) h in (integer_const (is_integer a.ctype) a.constant w.0, integer_const (is_integer b.ctype) b.constant w.1))
+
     two_gathered : (env : Env) (at : ℕ) (a b g : TypedExpression) → OfTwo env at a b g → Gathers gathering xs a → Gathers gathering ys b → Gathers gathering (xs ++ ys) g
     two_gathered env at a b g (calculates o i j f s t) h k = calculated_gathered o i j a b h k
     two_gathered env at a b g (compares o i f p s t) h k = compared_gathered o i a b h k
@@ -190,15 +195,17 @@ module _ {X : Type 0} (gathering : Gathering X) where
     two_gathered env at a b g (adds_left t e i c) h k = both_gathered _ a.constant b.constant (tree_of a) (tree_of b) (turned b.constant a.constant _) h k
     two_gathered env at a b g (takes t e i c) h k = both_gathered _ a.constant b.constant (tree_of a) (tree_of b) (moved_const a.constant _ b.constant) h k
     two_gathered env at a b g (differs t e s c) h k = plain_gathered (tree_of a) (tree_of b) h.0 k.0
+    two_gathered env at a b g (joins_and s) h k = both_gathered _ a.constant b.constant (tree_of a) (tree_of b) (two_parts a b constant_and and_const) h k
+    two_gathered env at a b g (joins_or s) h k = both_gathered _ a.constant b.constant (tree_of a) (tree_of b) (two_parts a b constant_or or_const) h k
 
     pub operation_gathered : (env : Env) (at : ℕ) (o : BinOp) (a b : TypedExpression) → Gathers gathering xs a → Gathers gathering ys b → Holds (Gathers gathering (xs ++ ys)) (operation env at o a b)
     operation_gathered env at o a b h k = holds_map (OfTwo env at a b) (Gathers gathering (xs ++ ys)) (λ g x. two_gathered env at a b g x h k) (operation env at o a b) (operation_agrees env at at a b o).has
 
+    pub infix_gathered : (env : Env) (at : ℕ) (o : Infix) (a b : TypedExpression) → Gathers gathering xs a → Gathers gathering ys b → Holds (Gathers gathering (xs ++ ys)) (infix_rule env at o a b)
+    infix_gathered env at o a b h k = holds_map (OfTwo env at a b) (Gathers gathering (xs ++ ys)) (λ g x. two_gathered env at a b g x h k) (infix_rule env at o a b) (infix_agrees env at at a b o).has
+
     pub sum_gathered : (env : Env) (at : ℕ) (a b : TypedExpression) → Gathers gathering xs a → Gathers gathering ys b → Holds (Gathers gathering (xs ++ ys)) (sum env at a b)
     sum_gathered env at a b g h = operation_gathered env at op.Add a b g h
-
-    two_parts : (a b : TypedExpression) (f : Constant → Constant → Constant) → ((c d : Constant) → IsConst (f c d) → IsConst c × IsConst d) → IsConst (f (integer_constant a) (integer_constant b)) → IsConst a.constant × IsConst b.constant
-    two_parts a b f k h = (let w = k (integer_constant a) (integer_constant b) h in (integer_const (is_integer a.ctype) a.constant w.0, integer_const (is_integer b.ctype) b.constant w.1))
 
     pub conjunction_gathered : (at : ℕ) (a b : TypedExpression) → Gathers gathering xs a → Gathers gathering ys b → Holds (Gathers gathering (xs ++ ys)) (conjunction at a b)
     conjunction_gathered at a b g h = demand_holds (Gathers gathering (xs ++ ys)) (both_scalars a b) 3 at _ (λ _. both_gathered _ a.constant b.constant (tree_of a) (tree_of b) (two_parts a b constant_and and_const) g h)

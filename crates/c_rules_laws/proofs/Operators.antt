@@ -25,7 +25,7 @@ use Rattle.c_rules.specs.PrimaryExpressions.{most_cells_in, used, object_number,
 use Rattle.c_rules.specs.Conversions.{Kind, an_integer, a_pointer, kind_of, few_parts, is_defined, complete, loaded, valued_as, valued, cast_to, converted_to, null_of, fits, assigned, as_if_assigned, condition}
 use Rattle.c_rules.specs.PostfixExpressions.{site_in, site_of, callee_of_type, callee_by_name, callee_through, callee_by_value, Callee, all_fit, passed, call_of, as_many_as, called, name_of_member, member_given, member_or_undeclared, member_of_struct, member_of_type, member_of}
 use Rattle.c_rules.specs.UnaryExpressions.{address_of_form, address_of_type, address, led_to, indirection, plus_of, operator_of, operated, unary_of_value, size_of, cast_of, null_cast}
-use Rattle.c_rules.specs.BinaryExpressions.{shifted, compared_integers, compared_pointers, pointer_plus, plus_pointer, pointer_minus, difference, sum_of, sum, minus_of, balanced_of, shift_of, ordered_of, alike_integers, alike_pointers, unlike, alike_of, equality_of, arithmetic_of, operation_of, operation, both_scalars, conjunction, disjunction, chosen, arms_of, choice}
+use Rattle.c_rules.specs.BinaryExpressions.{shifted, compared_integers, compared_pointers, pointer_plus, plus_pointer, pointer_minus, difference, sum_of, sum, minus_of, balanced_of, shift_of, ordered_of, alike_integers, alike_pointers, unlike, alike_of, equality_of, arithmetic_of, operation_of, operation, both_scalars, conjunction, disjunction, chosen, arms_of, choice, operator_of_code}
 use Rattle.c_rules.specs.BinaryExpressions.{Alike as Operands, alike as operands}
 use Rattle.c_rules.specs.Assignments.{assignable, assignment, operator_of_assignment, right_type, updated, moves, update_of, assignment_by, step, one_for}
 use Rattle.c_rules_laws.specs.MadeTypes.{NotArray}
@@ -34,8 +34,9 @@ use Rattle.c_rules_laws.proofs.Holding.{Holds, holds_map, either}
 use Rattle.c_rules_laws.proofs.MadeTypes.{type_is}
 use Rattle.c_rules_laws.proofs.Alike.{Alike, alike, on_alike, gives_alike, demand_alike, and_alike, fault_alike, Agree, fine_agree, fault_agree, demand_agree, behind_agree, if_agree}
 use Rattle.c_tree.specs.Tree as typed
-use Rattle.c_syntax.specs.Tree.{Expr, a_name}
-use Rattle.c_rules.specs.Expressions.{callee_meant, callee_bound, callee}
+use Rattle.c_syntax.specs.Tree as syntax
+use Rattle.c_syntax.specs.Tree.{Expr, a_name, Infix}
+use Rattle.c_rules.specs.Expressions.{callee_meant, callee_bound, callee, infix_rule}
 
 -- ## Types of operands
 
@@ -283,7 +284,7 @@ pub data ArePointers (a b : TypedExpression) : TypedExpression → TypedExpressi
   left_null : (t : CType) → b.ctype ≡ pointer t → is_null a ≡ true → ArePointers a b (null_of b.ctype) b
   right_null : (t : CType) → a.ctype ≡ pointer t → is_null b ≡ true → ArePointers a b a (null_of a.ctype)
 
--- what the operators between two values give, but for && and ||
+-- what the operators between two values give
 pub data OfTwo (env : Env) (at : ℕ) (a b : TypedExpression) : TypedExpression → Type 0 where
   calculates : (o : BinOp) (i j : IntType) → AreOperands (kind_of_operator o) i j → IsIntegerType a.ctype → IsIntegerType b.ctype → OfTwo env at a b (shifted o i j a b)
   compares : (o : BinOp) (i : IntType) → IsComparison (kind_of_operator o) → IsPromoted i → IsIntegerType a.ctype → IsIntegerType b.ctype → OfTwo env at a b (compared_integers o i a b)
@@ -293,6 +294,8 @@ pub data OfTwo (env : Env) (at : ℕ) (a b : TypedExpression) : TypedExpression 
   adds_left : (t : CType) → b.ctype ≡ pointer t → IsIntegerType a.ctype → complete env at t ≡ fine met → OfTwo env at a b (plus_pointer t a b)
   takes : (t : CType) → a.ctype ≡ pointer t → IsIntegerType b.ctype → complete env at t ≡ fine met → OfTwo env at a b (pointer_minus t a b)
   differs : (t : CType) → a.ctype ≡ pointer t → b.ctype ≡ a.ctype → complete env at t ≡ fine met → OfTwo env at a b (difference a b)
+  joins_and : both_scalars a b ≡ true → OfTwo env at a b (typed_value int (and int (tree_of a) (tree_of b)) (constant_and (integer_constant a) (integer_constant b)))
+  joins_or : both_scalars a b ≡ true → OfTwo env at a b (typed_value int (or int (tree_of a) (tree_of b)) (constant_or (integer_constant a) (integer_constant b)))
 
 -- what ?: gives
 pub data OfChoice (c a b : TypedExpression) : TypedExpression → Type 0 where
@@ -378,11 +381,10 @@ module _ (env : Env) (at to : ℕ) (a b : TypedExpression) where
   pub operation_agrees : (o : BinOp) → TwoAgree (operation env at o a b) (operation env to o a b)
   operation_agrees o = operation_by_kind o (kind_of_operator o) refl
 
-pub conjunction_alike : (at to : ℕ) (a b : TypedExpression) → Alike TypedExpression (conjunction at a b) (conjunction to a b)
-conjunction_alike at to a b = demand_alike (both_scalars a b) C3 at to (typed_value int (and int (tree_of a) (tree_of b)) (constant_and (integer_constant a) (integer_constant b)))
-
-pub disjunction_alike : (at to : ℕ) (a b : TypedExpression) → Alike TypedExpression (disjunction at a b) (disjunction to a b)
-disjunction_alike at to a b = demand_alike (both_scalars a b) C3 at to (typed_value int (or int (tree_of a) (tree_of b)) (constant_or (integer_constant a) (integer_constant b)))
+  pub infix_agrees : (o : Infix) → TwoAgree (infix_rule env at o a b) (infix_rule env to o a b)
+  infix_agrees syntax.and = demand_agree (both_scalars a b) C3 at to _ (λ s. joins_and s)
+  infix_agrees syntax.or = demand_agree (both_scalars a b) C3 at to _ (λ s. joins_or s)
+  infix_agrees (syntax.operator code) = operation_agrees (operator_of_code code)
 
 module _ (at to : ℕ) (c a b : TypedExpression) where
   arms_agree : (k : Operands) → is_scalar c.ctype ≡ true → AreMadeAlike a b k → Agree (OfChoice c a b) (arms_of at c a b k) (arms_of to c a b k)

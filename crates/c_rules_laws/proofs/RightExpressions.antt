@@ -36,7 +36,7 @@ use Rattle.c_rules_laws.proofs.Holding.{Holds, holds_map, holds_two, on_holds, b
 use Rattle.c_rules_laws.proofs.TypesOfTypedExpressions.{TypedExpressionTyped, valued_typed, operation_typed}
 use Rattle.c_rules_laws.proofs.TypesOfExpressions.{Sized, CalleeTyped, type_named_made, value_at_typed, callee_typed, tree_typed}
 use Rattle.c_rules_laws.proofs.RightTypedExpressions.{complete_in, cells_in, static_address_right, static_right, TypedExpressionRight, ValueRight, ValuesRight, valued_right}
-use Rattle.c_rules_laws.proofs.RightRules.{CalleeRight, called_right, callee_type_right, callee_through_right, member_right, address_right, indirection_right, unary_right, number_right, size_right, cast_of_right, null_cast_right, SumRight, operation_right, conjunction_right, disjunction_right, choice_right, assignment_by_right, step_right, comma_right}
+use Rattle.c_rules_laws.proofs.RightRules.{CalleeRight, called_right, callee_type_right, callee_through_right, member_right, address_right, indirection_right, unary_right, number_right, size_right, cast_of_right, null_cast_right, SumRight, operation_right, infix_right, choice_right, assignment_by_right, step_right, comma_right}
 pub use Rattle.c_rules.proofs.BelowUnits.{number_below}
 use Rattle.c_rules_laws.proofs.Operators.{bound_holds, callee_holds}
 
@@ -153,11 +153,6 @@ module _ (p : Program) (vars : List CType) where
       if_holds (TypedExpressionRight p vars) (nat_eq o AMPERSAND) _ _ (on_holds (TypedExpressionRight p vars) (TypedExpressionRight p vars) r (address at place) k (λ g l. address_right p vars at place g l))
       (on_holds (ValueBoth env) (TypedExpressionRight p vars) (value_at env place r) (unary_of_value at o) (value_at_right env w place r h k) (λ g l. unary_right p vars (layout_of env) at o g l.0.made l.1))
 
-  infix_right : (env : Env) → IsRight p vars env → (at : ℕ) (o : Infix) (a b : TypedExpression) → ValueBoth env a → ValueBoth env b → Holds (TypedExpressionRight p vars) (infix_rule env at o a b)
-  infix_right env w at and a b g h = conjunction_right p vars env w.within at a b g.1 h.1
-  infix_right env w at or a b g h = disjunction_right p vars env w.within at a b g.1 h.1
-  infix_right env w at (operator code) a b g h = holds_map (SumRight p vars env w.within) (TypedExpressionRight p vars) (λ x k. k.0) (infix_rule env at (operator code) a b) (operation_right p vars env w.within at (operator_of_code code) a b (g.0.made, g.1) (h.0.made, h.1))
-
   cast_rule_right : (env : Env) (v : Bool) (at : ℕ) (t : Checked CType) (r : Checked TypedExpression) → Holds (ValueBoth env) r → Holds (TypedExpressionRight p vars) (cast_rule v at t r)
   cast_rule_right env true at t r h = after_part (TypedExpressionRight p vars) r (null_cast at) (λ g. null_cast_right p vars at g)
   cast_rule_right env false at t r h = both_hold Any (ValueBoth env) (TypedExpressionRight p vars) t r (cast_of at) (anything t) h (λ u g _ k. cast_of_right p vars at u g k.1)
@@ -203,7 +198,7 @@ module _ (p : Program) (vars : List CType) where
         both_hold (ValueBoth env) (ValueBoth env) (TypedExpressionRight p vars) (value_at env (place_of e) (tree env b e)) (value_at env (place_of f) (tree env (after b e) f)) (infix_rule env at o)
         (value_at_right env w (place_of e) (tree env b e) (tree_typed e env w.names_known l.0 b) (tree_right e env w l.0 b (strings_first (string_number env b) (strings e) (strings f) s)))
         (value_at_right env w (place_of f) (tree env (after b e) f) (tree_typed f env w.names_known l.1 (after b e)) (tree_right f env w l.1 (after b e) (strings_rest env b (calls e) (strings e) (strings f) s)))
-        (λ g h k m. infix_right env w at o g h k m)
+        (λ g h k m. holds_map (SumRight p vars env w.within) (TypedExpressionRight p vars) (λ _ r. r.0) (infix_rule env at o g h) (infix_right p vars env w.within at o g h (k.0.made, k.1) (m.0.made, m.1)))
     tree_right (assign at o e f) env w l b s =
         both_hold (PlaceBoth env) (ValueBoth env) (TypedExpressionRight p vars) (place_at (place_of e) (tree env b e)) (value_at env (place_of f) (tree env (after b e) f)) (assignment_by env at o)
         (place_at_right env w (place_of e) (tree env b e) (tree_typed e env w.names_known l.0 b) (tree_right e env w l.0 b (strings_first (string_number env b) (strings e) (strings f) s)))

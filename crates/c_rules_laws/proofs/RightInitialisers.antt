@@ -136,9 +136,6 @@ module _ (p : Program) (vars : List CType) where
       demand_holds (TypesAre (repeat n ts)) (nat_le (length w) n) 14 at (chars n w) (λ q. subst (λ us. TypesAre (repeat n us) (chars n w)) (sym (e refl)) (chars_right n w (leb-true (length w) n q)))
   array_right k at t n o ts e = tt
 
-  char_flat : (structs : Structs) (t : CType) → t ≡ integer Char → flat structs t ≡ integer Char ∷ []
-  char_flat structs t e = ap (flat structs) e
-
   -- ## Initialisers
 
   abbrev SlotTypes : Structs → Slots → List CType
@@ -162,7 +159,7 @@ module _ (p : Program) (vars : List CType) where
     initialised_right (one at e) env w l b k (integer i) m c s = scalar_right env k at (integer i) (value env b e) (value_right p vars e env w l b s)
     initialised_right (one at e) env w l b k (pointer t) m c s = scalar_right env k at (pointer t) (value env b e) (value_right p vars e env w l b s)
     initialised_right (one at e) env w l b k (array t n) m c s =
-        after_part (TypesAre (repeat n (flat (layout_of env) t))) (text_fits at (text_of e)) (λ _. array_cells at t n (text_of e)) (λ _. array_right k at t n (text_of e) (flat (layout_of env) t) (char_flat (layout_of env) t))
+        after_part (TypesAre (repeat n (flat (layout_of env) t))) (text_fits at (text_of e)) (λ _. array_cells at t n (text_of e)) (λ _. array_right k at t n (text_of e) (flat (layout_of env) t) (λ q. ap (flat (layout_of env)) q))
     initialised_right (list at is) env w l b k (array t n) m c s = list_right k (repeat n (flat (layout_of env) t)) true at n (count_inits is) (in_turn env b k (copies n t) is) (λ _. in_turn_right is env w l b k (copies n t) (m.2, m.1) s)
     initialised_right (list at is) env w l b k (struct n) m c s =
         let q : members_of_struct (struct_of env n) ≡ each c.0 = struct_slots env n c.0 c.1 in

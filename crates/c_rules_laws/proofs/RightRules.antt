@@ -12,7 +12,7 @@ use Rattle.c_tree.specs.declared.value.BinOp.{BinOp}
 use Rattle.c_tree.specs.declared.value.BinOp.TheVariants as op
 use Rattle.c_tree.specs.declared.value.Value.{Value}
 use Rattle.c_tree.specs.declared.value.Value.TheVariants as v
-use Rattle.c_tree.specs.Tree.{CType, void, integer, pointer, array, struct, function, CTypes, no_types, more_types, Program, type_of, Expr, Exprs, constant, pointer_add}
+use Rattle.c_tree.specs.Tree.{CType, void, integer, pointer, array, struct, function, CTypes, no_types, more_types, Program, type_of, Expr, Exprs, constant, pointer_add, and, or}
 use Rattle.c_tree.specs.Layout.{Structs, flat, cells, first_cell, sizeof}
 use Rattle.c_tree.specs.Functions.{int, unsigned_int, called_type}
 use Rattle.c_tree.specs.Operands.{IsScalar, IsResult, IsComplete, IsObject, IsTarget, IsIntegerType, IsPromoted, promoted, common, OperatorKind, balanced, shift, ordering, equality, AreOperands, FitsUnary, AreComparable, IsObjectPointer, FitsUpdate, FitsRightSide, MovesPointers}
@@ -26,7 +26,7 @@ use Rattle.c_rules.specs.Names.{Name, number_among}
 use Rattle.c_rules.specs.Types.{same_type, is_integer, is_function, is_scalar, is_void, count}
 use Rattle.c_rules.specs.Scopes.{Env, Struct, defined_struct, Member, struct_of, type_of_member, layout_of}
 use Rattle.c_rules.specs.TypedExpression.{Form, a_value, a_place, behind, Constant, not_constant, known, TypedExpression, tree_of_form, tree_of, is_value, is_place, is_null, integer_constant, typed_value}
-use Rattle.c_rules.specs.Constants.{answered, constant_binary, constant_moved}
+use Rattle.c_rules.specs.Constants.{answered, constant_binary, constant_moved, constant_and, constant_or}
 use Rattle.c_rules.specs.Conversions.{Kind, an_integer, a_pointer, kind_of, few_parts, complete, cast_to, converted_to, null_of, fits}
 use Rattle.c_rules.specs.PostfixExpressions.{Designator, direct, through, Callee, callee_of_type, callee_through, all_fit, passed, call_of, as_many_as, called, name_of_member, member_given, member_or_undeclared, member_of_struct, member_of_type, member_of}
 use Rattle.c_rules.specs.UnaryExpressions.{address_of_form, address_of_type, address, led_to, indirection, plus_of, operator_of, negation, unary_of_value, size_of, cast_of, null_cast}
@@ -37,13 +37,15 @@ use Rattle.c_meaning_laws.proofs.Places.{struct_is, member_lies, member_few}
 use Rattle.c_rules_laws.specs.MadeTypes.{NotArray, Made, IsSized}
 use Rattle.c_rules_laws.specs.SoundStructs.{AreSound, AreWithin}
 use Rattle.c_rules_laws.proofs.Holding.{Holds, held, on_holds, demand_holds, behind_demand, holds_map, and_left, and_right, either}
-use Rattle.c_rules_laws.proofs.Operators.{kind_pointer, promoted_is, common_is, IsComparison, IsMember, a_member, IsAddress, of_place, of_leader, IsLedTo, led, OfOne, leads, promotes, operates, negates, ArePointers, as_given, left_null, right_null, OfTwo, calculates, compares, orders, equals, adds_right, adds_left, takes, differs, OfChoice, integers_chosen, pointers_chosen, voids_chosen, OfUpdate, assigns, updates, moved, member_agrees, address_agrees, indirection_agrees, unary_agrees, operation_agrees, choice_agrees, assignment_agrees, step_agrees}
+use Rattle.c_rules_laws.proofs.Operators.{kind_pointer, promoted_is, common_is, IsComparison, IsMember, a_member, IsAddress, of_place, of_leader, IsLedTo, led, OfOne, leads, promotes, operates, negates, ArePointers, as_given, left_null, right_null, OfTwo, calculates, compares, orders, equals, adds_right, adds_left, takes, differs, OfChoice, integers_chosen, pointers_chosen, voids_chosen, OfUpdate, assigns, updates, moved, member_agrees, address_agrees, indirection_agrees, unary_agrees, operation_agrees, choice_agrees, assignment_agrees, step_agrees, infix_agrees, joins_and, joins_or}
 use Rattle.c_rules_laws.proofs.MadeTypes.{number_is, scalar_is, type_is, complete_known, scalar_not_array, void_is}
 use Rattle.c_rules_laws.proofs.SoundStructs.{are_structs, struct_few}
 use Rattle.c_rules_laws.proofs.SizeBounds.{size_bound}
 use Rattle.c_rules_laws.proofs.TypesOfTypedExpressions.{defined_at, sized_few, scalar_result}
 use Rattle.c_rules_laws.proofs.RightTypedExpressions.{complete_thing, target_scalar, seen_same, integer_type, thing_led, complete_in, cells_in, object_in, first_in, ConstRight, not_constant_right, truth_right, unary_constant, binary_constant, and_constant, or_constant, conditional_constant, integer_part, member_constant, moved_constant, FormRight, TypedExpressionRight, ValueRight, ValuesRight, cast_right, converted_right, null_right, assigned_right, fits_scalar}
 use Rattle.std.specs.Prelude.{neg_ℤ}
+use Rattle.c_syntax.specs.Tree.{Infix}
+use Rattle.c_rules.specs.Expressions.{infix_rule}
 
 -- kinds of operators that calculate
 abbrev pub IsCalculation : OperatorKind → Type 0
@@ -306,6 +308,9 @@ module _ (p : Program) (vars : List CType) where
     pointers_right a b x y (left_null t e n) g h = (null_right p vars b.ctype t e, h, refl, (t, e))
     pointers_right a b x y (right_null t e n) g h = (g, null_right p vars a.ctype t e, refl, (t, e))
 
+    scalar_tree : (g : TypedExpression) → is_scalar g.ctype ≡ true → ValueRight p vars g → IsScalar (type_of (tree_of g)) × IsValue p vars (tree_of g)
+    scalar_tree g s h = (subst IsScalar (sym h.0) (scalar_is g.ctype s), h.1)
+
     -- what holds of a value as an expression holds of it as a value
     two_right : (at : ℕ) (a b g : TypedExpression) → OfTwo env at a b g → IsMadeRight a → IsMadeRight b → SumRight g
     two_right at a b g (calculates o i j f s t) h k = (let r = calculated_right o i j a b f s t h.1 k.1 in (r, r))
@@ -319,20 +324,16 @@ module _ (p : Program) (vars : List CType) where
     two_right at a b g (adds_left t e i c) h k = (let r = plus_pointer_right t a b e (pointer_object at b.ctype t e k.0 c) i h.1 k.1 in (r, r))
     two_right at a b g (takes t e i c) h k = (let r = pointer_moved_right t true (λ z. neg_ℤ z) a b e (pointer_object at a.ctype t e h.0 c) i h.1 k.1 in (r, r))
     two_right at a b g (differs t e s c) h k = (let r = difference_right a b s (pointer_object at a.ctype t e h.0 c) h.1 k.1 in (r, r))
+    two_right at a b g (joins_and s) h k =
+        let r : ValueRight p vars (typed_value int (and int (tree_of a) (tree_of b)) (constant_and (integer_constant a) (integer_constant b))) = (refl, (refl, scalar_tree a (and_left (is_scalar a.ctype) (is_scalar b.ctype) s) h.1, scalar_tree b (and_right (is_scalar a.ctype) (is_scalar b.ctype) s) k.1), tt, and_constant p (integer_constant a) (integer_constant b)) in (r, r)
+    two_right at a b g (joins_or s) h k =
+        let r : ValueRight p vars (typed_value int (or int (tree_of a) (tree_of b)) (constant_or (integer_constant a) (integer_constant b))) = (refl, (refl, scalar_tree a (and_left (is_scalar a.ctype) (is_scalar b.ctype) s) h.1, scalar_tree b (and_right (is_scalar a.ctype) (is_scalar b.ctype) s) k.1), tt, or_constant p (integer_constant a) (integer_constant b)) in (r, r)
 
     pub operation_right : (at : ℕ) (o : BinOp) (a b : TypedExpression) → IsMadeRight a → IsMadeRight b → Holds SumRight (operation env at o a b)
     operation_right at o a b h k = holds_map (OfTwo env at a b) SumRight (λ g x. two_right at a b g x h k) (operation env at o a b) (operation_agrees env at at a b o).has
 
-    scalar_tree : (g : TypedExpression) → is_scalar g.ctype ≡ true → ValueRight p vars g → IsScalar (type_of (tree_of g)) × IsValue p vars (tree_of g)
-    scalar_tree g s h = (subst IsScalar (sym h.0) (scalar_is g.ctype s), h.1)
-
-    pub conjunction_right : (at : ℕ) (a b : TypedExpression) → ValueRight p vars a → ValueRight p vars b → Holds (TypedExpressionRight p vars) (conjunction at a b)
-    conjunction_right at a b g h =
-        demand_holds (TypedExpressionRight p vars) (both_scalars a b) 3 at _ (λ s. (refl, (refl, scalar_tree a (and_left (is_scalar a.ctype) (is_scalar b.ctype) s) g, scalar_tree b (and_right (is_scalar a.ctype) (is_scalar b.ctype) s) h), tt, and_constant p (integer_constant a) (integer_constant b)))
-
-    pub disjunction_right : (at : ℕ) (a b : TypedExpression) → ValueRight p vars a → ValueRight p vars b → Holds (TypedExpressionRight p vars) (disjunction at a b)
-    disjunction_right at a b g h =
-        demand_holds (TypedExpressionRight p vars) (both_scalars a b) 3 at _ (λ s. (refl, (refl, scalar_tree a (and_left (is_scalar a.ctype) (is_scalar b.ctype) s) g, scalar_tree b (and_right (is_scalar a.ctype) (is_scalar b.ctype) s) h), tt, or_constant p (integer_constant a) (integer_constant b)))
+    pub infix_right : (at : ℕ) (o : Infix) (a b : TypedExpression) → IsMadeRight a → IsMadeRight b → Holds SumRight (infix_rule env at o a b)
+    infix_right at o a b h k = holds_map (OfTwo env at a b) SumRight (λ g x. two_right at a b g x h k) (infix_rule env at o a b) (infix_agrees env at at a b o).has
 
     chosen_right : (t : CType) (c a b : TypedExpression) → IsScalar (type_of (tree_of c)) × IsValue p vars (tree_of c) → IsResult t → a.ctype ≡ t → b.ctype ≡ t → ValueRight p vars a → ValueRight p vars b → TypedExpressionRight p vars (chosen t c a b)
     chosen_right t c a b s r e f g h = (

@@ -34,8 +34,8 @@ use Rattle.c_rules_laws.specs.RightScopes.{Seen, IsThing}
 use Rattle.c_rules_laws.specs.SoundStructs.{AreWithin}
 use Rattle.c_rules_laws.proofs.Holding.{Holds, demand_holds, and_left, either}
 use Rattle.c_rules_laws.proofs.MadeTypes.{integer_is, scalar_is, type_is, complete_kept, result_not_array}
-use Rattle.c_rules_laws.proofs.SoundStructs.{object_is, same_flat}
-use Rattle.c_rules_laws.proofs.SizeBounds.{has_cell}
+use Rattle.c_rules_laws.proofs.SoundStructs.{object_is, same_flat, are_structs}
+use Rattle.c_meaning_laws.proofs.Differences.{has_cell}
 use Rattle.c_rules_laws.proofs.Operators.{kind_pointer, kind_integer}
 
 -- no void and no array
@@ -256,13 +256,10 @@ module _ (p : Program) where
   member_constant t u from width (known (v.At q)) h o e l = part_right t u q from width 1 (leads_to t q h) o e (lies_once (flat p.structs t) (flat p.structs u) from l)
   member_constant t u from width c h o e l = tt
 
-  quotient : (n c : ℕ) → 1 ≤ c → n * c / c ≡ n
-  quotient n c h = mul-div_cancel n (omega (arith, h))
-
   decayed_at : (u : CType) (n width : ℕ) (q : Pointer) → Leads (array u n) q → 1 ≤ cells p.structs u → width ≡ cells p.structs u → ConstRight (pointer u) (part_of q 0 width (q.width / width))
   decayed_at u n width q h c e =
       let long : q.width ≡ n * cells p.structs u = h.wide ∙ length_repeat n (flat p.structs u) in
-      let many : q.width / width ≡ n = ap₂ (λ x y. x / y) long e ∙ quotient n (cells p.structs u) c in
+      let many : q.width / width ≡ n = ap₂ (λ x y. x / y) long e ∙ mul-div_cancel n (omega (arith, c)) in
       subst (λ k. ConstRight (pointer u) (part_of q 0 width k)) (sym many)
       (part_right (array u n) u q 0 width n h (element_object p.structs u n h.object) e (lies_whole (repeat n (flat p.structs u))))
 
@@ -333,7 +330,7 @@ module _ (p : Program) (vars : List CType) where
   module _ (env : Env) (w : AreWithin (layout_of env) p.structs) where
     valued_as_right : (at : ℕ) (g : TypedExpression) (t : CType) → g.ctype ≡ t → Made (layout_of env) t → TypedExpressionRight g → Holds ValueRight (valued_as env at g t)
     valued_as_right at g (array t n) e m h =
-        array_decayed g.ctype g.form g.constant t n (cells (layout_of env) t) e (has_cell p.structs w.whole t (complete_in (layout_of env) p.structs w t m.1)) (cells_in (layout_of env) p.structs w t m.1) h
+        array_decayed g.ctype g.form g.constant t n (cells (layout_of env) t) e (has_cell p.structs (are_structs p.structs w.whole) t (complete_in (layout_of env) p.structs w t m.1)) (cells_in (layout_of env) p.structs w t m.1) h
     valued_as_right at g (struct s) e m h = tt
     valued_as_right at g (function t ts) e m h = demand_holds ValueRight (few_parts (pointer g.ctype)) 13 at _ (λ _. function_decayed g.ctype g.form g.constant t ts e h)
     valued_as_right at g t e m h = scalar_loaded g.ctype g.form g.constant (subst IsResult (sym e) tt) h

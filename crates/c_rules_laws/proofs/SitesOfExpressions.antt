@@ -25,7 +25,7 @@ use Rattle.c_rules.specs.Declarators.{place_of_type, is_void_pointer}
 use Rattle.c_rules.specs.Expressions.{value_at, place_at, callee_meant, callee_bound, callee, access, after_operand, unary_rule, infix_rule, cast_rule, tree, trees, type_named, value}
 use Rattle.c_rules.proofs.Integers.{integer_cases}
 use Rattle.c_rules_laws.proofs.Holding.{Holds, holds_map, holds_two, on_holds, both_hold, all_three_hold, Any, anything, demand_holds, after_part, if_holds, Each, each_both}
-use Rattle.c_rules_laws.proofs.GatheredOfTypedExpressions.{called_at, Gathers, AllGather, CalleeGathers, valued_gathered, called_gathered, callee_type_gathered, callee_through_gathered, member_gathered, address_gathered, indirection_gathered, unary_gathered, size_gathered, cast_of_gathered, null_cast_gathered, sum_gathered, operation_gathered, conjunction_gathered, disjunction_gathered, assignment_by_gathered, step_gathered, choice_gathered, comma_gathered}
+use Rattle.c_rules_laws.proofs.GatheredOfTypedExpressions.{called_at, Gathers, AllGather, CalleeGathers, valued_gathered, called_gathered, callee_type_gathered, callee_through_gathered, member_gathered, address_gathered, indirection_gathered, unary_gathered, size_gathered, cast_of_gathered, null_cast_gathered, sum_gathered, infix_gathered, assignment_by_gathered, step_gathered, choice_gathered, comma_gathered}
 use Rattle.c_tree.specs.Sites.{all_sites}
 use Rattle.c_rules_laws.proofs.Operators.{bound_holds, callee_holds}
 
@@ -81,17 +81,11 @@ FitsAt b n ws = Fits b.sites b.cells n ws
 abbrev pub Counted : Before → ℕ → List (List ℕ) → TypedExpression → Type 0
 Counted b n ws g = Gathers all_sites (Span b n) g × FitsAt b n ws
 
-plain_counted : (b : Before) (g : TypedExpression) → Gathers all_sites [] g → Counted b 0 [] g
-plain_counted b g h = (h, fits_none b.sites b.cells)
-
 meant_sites : (env : Env) (at : ℕ) (x : Name) (m : Meaning) → Holds (Gathers all_sites []) (meant env at x m)
 meant_sites env at x (a_static seen whole d) = after_part (Gathers all_sites []) (used env.context at (object_number env x)) _ (λ _. (refl, λ _. refl))
 meant_sites env at x (a_function t d) = after_part (Gathers all_sites []) (function_value_number env at x) _ (λ _. (refl, λ _. refl))
 meant_sites env at x (unknown f fs) = tt
 meant_sites env at x m = (refl, λ _. refl)
-
-integer_sites : (n : ℕ) (u : Bool) → Gathers all_sites [] (integer_expression n u)
-integer_sites n u = integer_cases (Gathers all_sites []) n u (λ _. (refl, λ _. refl)) (refl, λ _. refl)
 
 string_counted : (c : Context) → c ≡ evaluated → (at n : ℕ) (b : Before) (w : List ℕ) → Holds (Counted b 0 (w ∷ [])) (gives (string_fits c at b.cells (suc (length w))) (λ _. typed_string n (length w)))
 string_counted evaluated e at n b w =
@@ -152,11 +146,6 @@ unary_rule_counted env at place o b n ws r h =
     if_holds (Counted b n ws) (nat_eq o AMPERSAND) _ _ (one_part b n ws r (address at place) h (λ g k. address_gathered all_sites at place (Span b n) g k))
     (one_part b n ws (value_at env place r) (unary_of_value at o) (value_at_counted env place b n ws r h) (λ g k. unary_gathered all_sites at o (Span b n) g k))
 
-infix_sites : (env : Env) (at : ℕ) (o : Infix) (xs ys : List ℕ) (g h : TypedExpression) → Gathers all_sites xs g → Gathers all_sites ys h → Holds (Gathers all_sites (xs ++ ys)) (infix_rule env at o g h)
-infix_sites env at and xs ys g h k l = conjunction_gathered all_sites xs ys at g h k l
-infix_sites env at or xs ys g h k l = disjunction_gathered all_sites xs ys at g h k l
-infix_sites env at (operator code) xs ys g h k l = operation_gathered all_sites xs ys env at (operator_of_code code) g h k l
-
 cast_rule_counted : (v : Bool) (at : ℕ) (t : Checked CType) (b : Before) (n : ℕ) (ws : List (List ℕ)) (r : Checked TypedExpression) → Holds (Counted b n ws) r → Holds (Counted b n ws) (cast_rule v at t r)
 cast_rule_counted true at t b n ws r h = one_part b n ws r (null_cast at) h (λ g k. null_cast_gathered all_sites at (Span b n) g k)
 cast_rule_counted false at t b n ws r h = both_hold Any (Counted b n ws) (Counted b n ws) t r (cast_of at) (anything t) h (λ u g _ k. holds_with (Gathers all_sites (Span b n)) (FitsAt b n ws) (cast_of at u g) k.1 (cast_of_gathered all_sites at (Span b n) u g k.0))
@@ -174,8 +163,8 @@ call_fits s c n m xs ys h l k =
 mutual
   pub tree_counted : (x : Expr) (env : Env) → env.context ≡ evaluated → (b : Before) → Holds (Counted b (calls x) (strings x)) (tree env b x)
   tree_counted (a_name at x) env e b = holds_with (Gathers all_sites []) (FitsAt b 0 []) (bound env at x (binding_of env x)) (fits_none b.sites b.cells) (bound_holds (Gathers all_sites []) env at x (binding_of env x) (λ c _. meant_sites env at x c.means))
-  tree_counted (an_int at n u) env e b = plain_counted b (integer_expression n u) (integer_sites n u)
-  tree_counted (a_char at c) env e b = plain_counted b (typed_int c) (refl, λ _. refl)
+  tree_counted (an_int at n u) env e b = (integer_cases (Gathers all_sites []) n u (λ _. (refl, λ _. refl)) (refl, λ _. refl), fits_none b.sites b.cells)
+  tree_counted (a_char at c) env e b = ((refl, λ _. refl), fits_none b.sites b.cells)
   tree_counted (a_str at w) env e b = string_counted env.context e at (string_number env b) b w
   tree_counted (comma at es) env e b =
       on_holds (λ gs. AllGather all_sites (Span b (calls_of_all es)) gs × FitsAt b (calls_of_all es) (strings_of_all es)) (Counted b (calls_of_all es) (strings_of_all es)) (trees env b es) (λ gs. fine (comma_of gs)) (trees_counted es env e b) (λ gs h. (comma_gathered all_sites gs (Span b (calls_of_all es)) h.0, h.1))
@@ -203,7 +192,7 @@ mutual
       (λ g h k l. sum_gathered all_sites (Span b (calls x)) (Span (after b x) (calls y)) env at g h k l)) (λ g k. indirection_gathered all_sites at (Span b (calls x + calls y)) g k)
   tree_counted (binary at o x y) env e b =
       two_parts b (calls x) (calls y) (strings x) (strings y) (value_at env (place_of x) (tree env b x)) (value_at env (place_of y) (tree env (after b x) y)) (infix_rule env at o) (value_at_counted env (place_of x) b (calls x) (strings x) (tree env b x) (tree_counted x env e b)) (value_at_counted env (place_of y) (after b x) (calls y) (strings y) (tree env (after b x) y) (tree_counted y env e (after b x)))
-      (λ g h k l. infix_sites env at o (Span b (calls x)) (Span (after b x) (calls y)) g h k l)
+      (λ g h k l. infix_gathered all_sites (Span b (calls x)) (Span (after b x) (calls y)) env at o g h k l)
   tree_counted (assign at o x y) env e b =
       two_parts b (calls x) (calls y) (strings x) (strings y) (place_at (place_of x) (tree env b x)) (value_at env (place_of y) (tree env (after b x) y)) (assignment_by env at o) (place_at_counted (place_of x) b (calls x) (strings x) (tree env b x) (tree_counted x env e b)) (value_at_counted env (place_of y) (after b x) (calls y) (strings y) (tree env (after b x) y) (tree_counted y env e (after b x)))
       (λ g h k l. assignment_by_gathered all_sites (Span b (calls x)) (Span (after b x) (calls y)) env at o g h k l)

@@ -5,7 +5,6 @@ use Rattle.c_tree.specs.Tree.{CType, integer, pointer, array, struct}
 use Rattle.c_tree.specs.Layout.{Structs, members_of, flat_with, flat_all_with, layout, struct_cells, cells, Extent, round_up, put_after, extent_with, extent_after, rounded, struct_extent, sizeof}
 use Rattle.c_tree.specs.Operands.{IsComplete}
 use Rattle.c_meaning_laws.proofs.Places.{length_repeat}
-use Rattle.c_meaning_laws.proofs.Differences.{has_cell as some_cell}
 use Rattle.c_rules_laws.specs.SoundStructs.{AreSound}
 use Rattle.c_rules_laws.proofs.SoundStructs.{are_structs}
 use Rattle.c_rules.proofs.Greater.{greater}
@@ -62,8 +61,3 @@ struct_within structs (suc depth) s =
 
 pub size_bound : (structs : Structs) (t : CType) → sizeof structs t ≤ 4 * cells structs t
 size_bound structs t = (with_within (struct_extent structs (length structs)) (struct_cells structs) (struct_within structs (length structs)) t).size
-
--- ## An object has a cell
-
-pub has_cell : (structs : Structs) → AreSound structs → (t : CType) → IsComplete structs t → 1 ≤ cells structs t
-has_cell structs sound t c = some_cell structs (are_structs structs sound) t c

@@ -152,11 +152,8 @@ module _ (old : Structs) (sound : AreSound old) (n : ℕ) (ts : List CType) (emp
   below_rank r (struct s) c = subst (λ k. k < r) (sym (rank_there s (other_place s c.0.0 c.0.1))) c.1
   below_rank r t c = absurd c.0
 
-  all_both : (P Q : CType → Type 0) (us : List CType) → All P us → All Q us → All (λ t. P t × Q t) us
-  all_both P Q us h g k d l = (h k d l, g k d l)
-
   old_below : (s : ℕ) (us : List CType) → (s ≡ n → ⊥) → slice_get old s ≡ Some (Some us) → All (IsBelow new_rank (new_rank s)) us
-  old_below s us h q = subst (λ r. All (IsBelow new_rank r) us) (sym (rank_there s h)) (all_map (λ t. IsComplete old t × IsBelow sound.rank (sound.rank s) t) (IsBelow new_rank (sound.rank s)) (below_rank (sound.rank s)) us (all_both (IsComplete old) (IsBelow sound.rank (sound.rank s)) us (sound.complete s us q) (sound.below s us q)))
+  old_below s us h q = subst (λ r. All (IsBelow new_rank r) us) (sym (rank_there s h)) (all_map (λ t. IsComplete old t × IsBelow sound.rank (sound.rank s) t) (IsBelow new_rank (sound.rank s)) (below_rank (sound.rank s)) us (λ k d l. (sound.complete s us q k d l, sound.below s us q k d l)))
 
   count_is : defined_among new ≡ suc (defined_among old)
   count_is = count_set old n ts empty

@@ -22,7 +22,8 @@ use Rattle.c_rules.specs.Items.{Output, no_output, with_output, static_of, witho
 use Rattle.c_rules_laws.specs.Lexical.{IsUnitLexical}
 use Rattle.c_rules_laws.proofs.Holding.{held, first_fine, on_fine, demand_fine, each_both, fine_same}
 use Rattle.c_rules_laws.proofs.Definitions.{definition_fine}
-use Rattle.c_rules_laws.proofs.SizeBounds.{has_cell}
+use Rattle.c_meaning_laws.proofs.Differences.{has_cell}
+use Rattle.c_rules_laws.proofs.SoundStructs.{are_structs}
 use Rattle.c_rules_laws.proofs.SitesOfExpressions.{AreShort, FitsAt, Span, range_append}
 use Rattle.c_rules_laws.proofs.RightInitialisers.{AllKnown, known_sites, InitCounted, static_counted}
 use Rattle.c_rules_laws.proofs.SitesOfStatements.{IsSpan, StmtsSpan, held_by_named_same, block_span, params_keep}
@@ -100,7 +101,7 @@ object_span env w b x m r o q e h f =
     let known : AllKnown j.0 = held AllKnown (initialised_static inner start o.whole m) j.0 (static_known m inner start o.whole) j.1 in
     let none : n ≡ 0 = no_range b.sites n (known_sites j.0 (Span start n) known counted.0) in
     let fits : FitsAt start n ws = subst (FitsAt start n) seen counted.1 in
-    let some = has_cell (layout_of env) w.names_known.sound o.whole h.right.known in
+    let some = has_cell (layout_of env) (are_structs (layout_of env) w.names_known.sound) o.whole h.right.known in
     let many = string_many ws in
     subst (Spans b (after_global env b m (fine o))) (output_same (static_of o j.0) q j.2)
     (record {

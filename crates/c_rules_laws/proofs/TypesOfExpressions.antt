@@ -32,7 +32,7 @@ use Rattle.c_rules_laws.specs.MadeTypes.{Made, AllMade}
 use Rattle.c_rules_laws.specs.RightScopes.{MeaningTyped, IsKnown}
 use Rattle.c_rules_laws.proofs.Holding.{Holds, on_holds, both_hold, all_three_hold, Any, anything, demand_holds, behind_demand, after_part, if_holds}
 use Rattle.c_rules_laws.proofs.MadeTypes.{scalar_is, result_is, few_unless_array, complete_known}
-use Rattle.c_rules_laws.proofs.TypesOfTypedExpressions.{TypedExpressionSized, TypedExpressionTyped, TypedExpressionsTyped, IsCalleeTyped, sized_int, valued_typed, called_typed, callee_type, callee_through_typed, address_typed, indirection_typed, unary_typed, cast_typed, null_cast_typed, operation_typed, conjunction_typed, disjunction_typed, choice_typed, assignable_typed, assignment_by_typed, step_typed, comma_typed, member_typed}
+use Rattle.c_rules_laws.proofs.TypesOfTypedExpressions.{TypedExpressionSized, TypedExpressionTyped, TypedExpressionsTyped, IsCalleeTyped, sized_int, valued_typed, called_typed, callee_type, callee_through_typed, address_typed, indirection_typed, unary_typed, cast_typed, null_cast_typed, operation_typed, infix_typed, choice_typed, assignable_typed, assignment_by_typed, step_typed, comma_typed, member_typed}
 use Rattle.c_rules_laws.proofs.Operators.{bound_holds, callee_holds}
 
 -- ## Declarators
@@ -49,9 +49,7 @@ module _ (structs : Structs) where
   pointer_made : (at : ℕ) (t : CType) → Made structs t → Holds (Made structs) (pointer_to at t)
   pointer_made at void h = tt
   pointer_made at (array t n) h = tt
-  pointer_made at (pointer t) h = within_made at (pointer (pointer t)) (tt, h)
-  pointer_made at (function t ts) h = within_made at (pointer (function t ts)) (tt, h)
-  pointer_made at t h = within_made at (pointer t) (tt, tt)
+  pointer_made at t h = within_made at (pointer t) (tt, h)
 
   function_made : (at : ℕ) (t : CType) (ts : CTypes) → Made structs t → AllMade structs ts → Holds (Made structs) (function_of at t ts)
   function_made at t ts h k =
@@ -61,10 +59,9 @@ module _ (structs : Structs) where
   ParameterMade t = IsScalar t × Made structs t
 
   adjusted_made : (t : CType) → Made structs t → Made structs (adjusted t)
-  adjusted_made (pointer t) h = h
   adjusted_made (array t n) h = (h.0, h.2)
   adjusted_made (function t ts) h = (tt, h)
-  adjusted_made t h = tt
+  adjusted_made t h = h
 
   parameter_made : (at : ℕ) (t : CType) → Made structs t → Holds ParameterMade (parameter_of at t)
   parameter_made at t h =
@@ -171,11 +168,6 @@ unary_rule_typed env at place o r h =
     if_holds (Sized env) (nat_eq o AMPERSAND) _ _ (on_holds (Sized env) (Sized env) r (address at place) h (λ g k. address_typed (layout_of env) at place g k))
     (on_holds (Typed env) (Sized env) (value_at env place r) (unary_of_value at o) (value_at_typed env place r h) (λ g k. unary_typed (layout_of env) at o g k))
 
-infix_typed : (env : Env) (at : ℕ) (o : Infix) (a b : TypedExpression) → Typed env a → Typed env b → Holds (Sized env) (infix_rule env at o a b)
-infix_typed env at and a b g h = conjunction_typed (layout_of env) at a b
-infix_typed env at or a b g h = disjunction_typed (layout_of env) at a b
-infix_typed env at (operator code) a b g h = operation_typed (layout_of env) env at (operator_of_code code) a b g h
-
 cast_rule_typed : (env : Env) (v : Bool) (at : ℕ) (t : Checked CType) (r : Checked TypedExpression) → Holds (Sized env) (cast_rule v at t r)
 cast_rule_typed env true at t r = after_part (Sized env) r (null_cast at) (λ g. null_cast_typed (layout_of env) at g)
 cast_rule_typed env false at t r = both_hold Any Any (Sized env) t r (cast_of at) (anything t) (anything r) (λ u g _ _. cast_typed (layout_of env) at u g)
@@ -201,7 +193,7 @@ mutual
       (both_hold (Typed env) (Typed env) (Sized env) (value_at env (place_of e) (tree env b e)) (value_at env (place_of f) (tree env (after b e) f)) (sum env at) (value_at_typed env (place_of e) (tree env b e) (tree_typed e env w l.0 b)) (value_at_typed env (place_of f) (tree env (after b e) f) (tree_typed f env w l.1 (after b e))) (λ g h k m. operation_typed (layout_of env) env at Add g h k m))
       (λ g k. indirection_typed (layout_of env) at g k.made)
   tree_typed (binary at o e f) env w l b =
-      both_hold (Typed env) (Typed env) (Sized env) (value_at env (place_of e) (tree env b e)) (value_at env (place_of f) (tree env (after b e) f)) (infix_rule env at o) (value_at_typed env (place_of e) (tree env b e) (tree_typed e env w l.0 b)) (value_at_typed env (place_of f) (tree env (after b e) f) (tree_typed f env w l.1 (after b e))) (λ g h k m. infix_typed env at o g h k m)
+      both_hold (Typed env) (Typed env) (Sized env) (value_at env (place_of e) (tree env b e)) (value_at env (place_of f) (tree env (after b e) f)) (infix_rule env at o) (value_at_typed env (place_of e) (tree env b e) (tree_typed e env w l.0 b)) (value_at_typed env (place_of f) (tree env (after b e) f) (tree_typed f env w l.1 (after b e))) (λ g h k m. infix_typed (layout_of env) env at o g h k m)
   tree_typed (assign at o e f) env w l b =
       both_hold (Sized env) Any (Sized env) (place_at (place_of e) (tree env b e)) (value_at env (place_of f) (tree env (after b e) f)) (assignment_by env at o) (place_at_typed env (place_of e) (tree env b e) (tree_typed e env w l.0 b)) (anything (value_at env (place_of f) (tree env (after b e) f))) (λ g h k _. assignment_by_typed (layout_of env) env at o g h k)
   tree_typed (conditional at c e f) env w l b =

@@ -26,7 +26,9 @@ use Rattle.c_rules_laws.specs.SoundStructs.{AreSound}
 use Rattle.c_rules_laws.proofs.Holding.{Holds, holds_map, demand_holds, behind_demand, either}
 use Rattle.c_rules_laws.proofs.MadeTypes.{result_not_array, few_unless_array}
 pub use Rattle.c_rules_laws.proofs.Operators.{kind_pointer}
-use Rattle.c_rules_laws.proofs.Operators.{IsMember, a_member, IsAddress, of_place, of_leader, IsLedTo, led, OfOne, leads, promotes, operates, negates, ArePointers, as_given, left_null, right_null, OfTwo, adds_right, adds_left, takes, OfChoice, integers_chosen, pointers_chosen, voids_chosen, OfUpdate, assigns, member_agrees, address_agrees, indirection_agrees, unary_agrees, operation_agrees, choice_agrees, assignment_agrees, step_agrees}
+use Rattle.c_rules_laws.proofs.Operators.{IsMember, a_member, IsAddress, of_place, of_leader, IsLedTo, led, OfOne, leads, promotes, operates, negates, ArePointers, as_given, left_null, right_null, OfTwo, adds_right, adds_left, takes, OfChoice, integers_chosen, pointers_chosen, voids_chosen, OfUpdate, assigns, member_agrees, address_agrees, indirection_agrees, unary_agrees, operation_agrees, choice_agrees, assignment_agrees, step_agrees, infix_agrees}
+use Rattle.c_syntax.specs.Tree.{Infix}
+use Rattle.c_rules.specs.Expressions.{infix_rule}
 
 module _ (structs : Structs) where
   -- a type that a value has
@@ -150,11 +152,8 @@ module _ (structs : Structs) where
   pub operation_typed : (env : Env) (at : ℕ) (o : BinOp) (a b : TypedExpression) → TypedExpressionTyped structs a → TypedExpressionTyped structs b → Holds (TypedExpressionSized structs) (operation env at o a b)
   operation_typed env at o a b h k = holds_map (OfTwo env at a b) (TypedExpressionSized structs) (λ g x. two_typed env at a b g x h k) (operation env at o a b) (operation_agrees env at at a b o).has
 
-  pub conjunction_typed : (at : ℕ) (a b : TypedExpression) → Holds (TypedExpressionSized structs) (conjunction at a b)
-  conjunction_typed at a b = demand_holds (TypedExpressionSized structs) (both_scalars a b) 3 at _ (λ _. sized_int structs _)
-
-  pub disjunction_typed : (at : ℕ) (a b : TypedExpression) → Holds (TypedExpressionSized structs) (disjunction at a b)
-  disjunction_typed at a b = demand_holds (TypedExpressionSized structs) (both_scalars a b) 3 at _ (λ _. sized_int structs _)
+  pub infix_typed : (env : Env) (at : ℕ) (o : Infix) (a b : TypedExpression) → TypedExpressionTyped structs a → TypedExpressionTyped structs b → Holds (TypedExpressionSized structs) (infix_rule env at o a b)
+  infix_typed env at o a b h k = holds_map (OfTwo env at a b) (TypedExpressionSized structs) (λ g x. two_typed env at a b g x h k) (infix_rule env at o a b) (infix_agrees env at at a b o).has
 
   pointers_typed : (a b x y : TypedExpression) → ArePointers a b x y → TypedExpressionTyped structs a → TypedExpressionTyped structs b → IsValueType structs x.ctype
   pointers_typed a b x y (left_null t e n) g h = h
