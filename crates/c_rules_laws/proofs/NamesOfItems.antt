@@ -5,8 +5,8 @@ use Rattle.std.specs.Cmp.{nat_eq_equiv}
 use Rattle.std.proofs.lemmas.Slice.Eq.{bytes_eq-Decides}
 use Rattle.dm_base.specs.declared.mode.Mode.{Mode}
 use Rattle.dm_base.specs.declared.mode.Mode.TheVariants.{Plain, Instrumented}
-use Rattle.c_tree.specs.Tree.{CType}
-use Rattle.c_syntax.specs.Tree.{Ident, Storage, Spec, Declarator, MaybeInit, Parts, no_parts, more_parts, decl, Stmt, Enumerators, no_enumerators, more_enumerators, Tag, no_tag, tag, Item, struct_item, enum_item, tag_item, decl_item, function_item, Items, no_items, more_items}
+use Rattle.c_tree.specs.Tree.{CType, Function}
+use Rattle.c_syntax.specs.Tree.{Ident, Storage, Spec, Declarator, MaybeInit, Parts, no_parts, more_parts, decl, Stmt, Enumerators, no_enumerators, more_enumerators, Tag, no_tag, tag, Item, struct_item, enum_item, tag_item, decl_item, function_item, Items, no_items, more_items, BlockItems}
 use Rattle.c_rules.specs.Checked.{Checked, fine, faulty, on, both, Met}
 use Rattle.c_rules.specs.Limits.{most_functions}
 use Rattle.c_rules.specs.Names.{Name, is_among, number_among, given_names}
@@ -16,19 +16,21 @@ use Rattle.c_rules.specs.Declarators.{name_of, place_or, new_name}
 use Rattle.c_rules.specs.Expressions.{type_declared}
 use Rattle.c_rules.specs.Objects.{Object, object_declared}
 use Rattle.c_rules.specs.Variables.{name_or_empty, calls_of_block}
-use Rattle.c_rules.specs.Functions.{declares_function, given_as, is_as_given, may_follow_function, is_defined_by, behind_function, function_declared, items_of_body, defined_as, held_by_typed}
-use Rattle.c_rules.specs.Items.{Output, no_output, with_output, without_init, output_of_function, defines, struct_definition, struct_or_unknown, enumerator_value, one_more_than, enumerator_meaning, behind_enumerator, behind_enumerators, behind_enum_tag, global_declared, meaning_of_global, declared_part, named_part, behind_declared, behind_named_part, behind_file_part, after_file_part, file_parts, behind_file_parts, behind_defined, function_named, behind_function_named, item, behind_by_form, with_tags, behind_item, after_item, items, behind_items, global, within_global, definition_of, after_declared, after_global, after_file_parts, after_items, new_enum, enumerators, tag_declaration, behind_global}
+use Rattle.c_rules.specs.Functions.{declares_function, given_as, is_as_given, may_follow_function, is_defined_by, behind_function, function_declared, items_of_body, defined_as, held_by_typed, held_by_type, function_meaning}
+use Rattle.c_rules.specs.Items.{Output, no_output, with_output, without_init, output_of_function, defines, struct_definition, struct_or_unknown, enumerator_value, one_more_than, enumerator_meaning, behind_enumerator, behind_enumerators, behind_enum_tag, global_declared, meaning_of_global, declared_part, named_part, behind_declared, behind_named_part, behind_file_part, after_file_part, file_parts, behind_file_parts, behind_defined, function_named, behind_function_named, item, behind_by_form, with_tags, behind_item, after_item, items, behind_items, global, within_global, definition_of, after_declared, after_global, after_file_parts, after_items, new_enum, enumerators, tag_declaration, behind_global, static_of, after_object}
 use Rattle.c_rules.specs.Units.{functions_of_item, functions_of, objects_of_parts, objects_of_item, objects_of}
 use Rattle.c_rules_laws.specs.Lexical.{IsUnitLexical, IsNamed, IsMaybeInitLexical, ArePartsLexical, IsStmtLexical, IsItemLexical}
-use Rattle.c_rules_laws.proofs.Holding.{held, first_fine, and_right, on_fine}
+use Rattle.c_rules_laws.proofs.Holding.{held, first_fine, and_right, on_fine, fine_same}
 use Rattle.c_rules_laws.proofs.FileScopes.{IsFileRight, follows_on}
-use Rattle.c_rules_laws.proofs.FileItems.{IsFunctionDeclared, function_declared_right, form_step, tags_step, items_step, Step, step_self, step_on, IsObjectNamed, object_named, part_step, definition_step, object_declared_same, here_is}
+use Rattle.c_rules_laws.proofs.FileItems.{IsFunctionDeclared, function_declared_right, form_step, tags_step, items_step, Step, step_self, step_on, IsObjectNamed, object_named, part_step, definition_step, object_declared_same, here_is, IsFunctionNamed, function_meant}
 use Rattle.c_rules_laws.proofs.DistinctNames.{itself, among_first, new_kept, new_there, new_few}
 use Rattle.c_rules_laws.proofs.DefinedNames.{IsDefined, Defines, defines_both, nothing_both, nothing_same, newest_or_older, IsNoFunction, static_no_function, enumerator_no_function, unknown_no_function, nothing_named, nothing_new}
 use Rattle.c_rules.specs.Tags.{tags_of_enumerators}
 use Rattle.dm_base.specs.Name.{IsName}
 use Rattle.c_rules.specs.Counts.{past}
 use Rattle.c_rules.proofs.NothingMore.{nothing_more}
+use Rattle.c_rules.specs.TypedExpression.{TypedExpression}
+use Rattle.c_rules.specs.Initialisers.{initialised_static}
 
 -- ## Enumerators and objects
 
@@ -148,17 +150,19 @@ module _ (env : Env) (w : IsFileRight env) (x : Ident) (r : Checked Meaning) (m 
 pub data Gives : Env → Before → Env → Before → Output → List Name → List Name → Type 0 where
   starts : {env : Env} {b : Before} → IsFileRight env → Gives env b env b no_output [] []
   declares : {env middle inner : Env} {b a : Before} {q : Output} {xs ys : List Name} → Gives env b middle a q xs ys → Step middle inner → Defines middle inner [] → Gives env b inner a q xs ys
-  an_object : {env : Env} {b : Before} {q : Output} (x : Ident) (m : MaybeInit) (r : Checked Object) (o : Object) → IsFileRight env → IsMaybeInitLexical m → r ≡ fine o → IsObjectNamed env true b x o → global env true b x m r ≡ fine q → Step env (behind_global env true x r)
-      → Gives env b (behind_global env true x r) (after_global env b m (fine o)) q [] (x.name ∷ [])
-  a_definition : {env : Env} {b : Before} {q : Output} (at : ℕ) (s : Spec) (d : Declarator) (body : Stmt) (x : Ident) → IsFileRight env → IsName x.name → IsStmtLexical body → declares_function d ≡ true → function_named env b at s d body true (Some x) ≡ fine q → Step env (behind_defined env at s d x)
-      → Gives env b (behind_defined env at s d x) (past b (calls_of_block (items_of_body body)) (held_by_typed (behind_defined env at s d x) d (items_of_body body) (type_declared env at s d))) q (x.name ∷ []) []
+  an_object : {env : Env} {b : Before} (x : Ident) (m : MaybeInit) (o : Object) (gs : List TypedExpression) → IsFileRight env → IsMaybeInitLexical m → IsObjectNamed env true b x o
+      → initialised_static (within_global env true x (fine o)) (after_object (within_global env true x (fine o)) b o.whole) o.whole m ≡ fine gs → Step env (behind_global env true x (fine o))
+      → Gives env b (behind_global env true x (fine o)) (after_global env b m (fine o)) (static_of o gs) [] (x.name ∷ [])
+  a_definition : {env : Env} {b : Before} (at : ℕ) (s : Spec) (d : Declarator) (body : Stmt) (x : Ident) (m : Meaning) (u : CType) (f : Function) → IsFileRight env → IsName x.name → IsStmtLexical body → declares_function d ≡ true → function_declared env true at s d x ≡ fine m
+      → type_declared env at s d ≡ fine u → IsFunctionNamed env true x u m → defined_as (behind_defined env at s d x) b (place_or at d) d x (items_of_body body) u ≡ fine f → Step env (behind_defined env at s d x)
+      → Gives env b (behind_defined env at s d x) (past b (calls_of_block (items_of_body body)) (held_by_type (behind_defined env at s d x) d (items_of_body body) u)) (output_of_function f) (x.name ∷ []) []
   one_and_more : {env middle inner : Env} {b c a : Before} {q r : Output} {xs ys zs ws : List Name} → Gives env b middle c q xs ys → Gives middle c inner a r zs ws → Gives env b inner a (with_output q r) (xs ++ zs) (ys ++ ws)
 
 pub gives_step : {env inner : Env} {b a : Before} {q : Output} {xs ys : List Name} → Gives env b inner a q xs ys → Step env inner
 gives_step (starts {env = e} w) = step_self e w
 gives_step {env} {inner} (declares {middle = c} h s d) = step_on env c inner (gives_step h) s
-gives_step (an_object x m r o w l e n f s) = s
-gives_step (a_definition at s d body x w n l k e t) = t
+gives_step (an_object x m o gs w l n f s) = s
+gives_step (a_definition at s d body x m u f w n l k c e h g t) = t
 gives_step {env} {inner} (one_and_more {middle = c} h k) = step_on env c inner (gives_step h) (gives_step k)
 
 pub output_same : (p q : Output) → fine p ≡ fine q → p ≡ q
@@ -180,9 +184,15 @@ part_gives env w b at class s d m (Some x) q l e = by_kind (declares_function d)
     by_object false n e z = (let i = on_fine r (λ _. fine no_output) q e in nothing_given env (behind_global env false x r) b q w z (nothing_named env x.name (meaning_or_unknown (meaning_of_global env false x r)) (object_means env false x r)) i.2)
     by_object true n e z =
         let i = on_fine r (definition_of (within_global env true x r) b m) q e in
-        let named : IsObjectNamed env (defines class m) b x i.0 = held (IsObjectNamed env (defines class m) b x) r i.0 (object_named env (defines class m) b at s d x m) i.1 in
-        let o : object_declared env at s d x m ≡ fine i.0 = object_declared_same env (defines class m) b at s d x m i.0 i.1 in
-        subst (λ y. Gives env b (behind_global env true x r) (after_global env b m y) q [] (x.name ∷ [])) (sym o) (an_object x m r i.0 w l i.1 (subst (λ k. IsObjectNamed env k b x i.0) n named) e z)
+        let o : Object = i.0 in
+        let inner : Env = within_global env true x (fine o) in
+        let named : IsObjectNamed env (defines class m) b x o = held (IsObjectNamed env (defines class m) b x) r o (object_named env (defines class m) b at s d x m) i.1 in
+        let declared : object_declared env at s d x m ≡ fine o = object_declared_same env (defines class m) b at s d x m o i.1 in
+        let j = on_fine (initialised_static inner (after_object inner b o.whole) o.whole m) (λ gs. fine (static_of o gs)) q (subst (λ y. definition_of (within_global env true x y) b m o ≡ fine q) i.1 i.2) in
+        subst (λ y. Gives env b (behind_global env true x r) (after_global env b m y) q [] (x.name ∷ [])) (sym declared)
+        (subst (λ y. Gives env b (behind_global env true x y) (after_global env b m (fine o)) q [] (x.name ∷ [])) (sym i.1)
+        (subst (λ p. Gives env b (behind_global env true x (fine o)) (after_global env b m (fine o)) p [] (x.name ∷ [])) (output_same (static_of o j.0) q j.2)
+        (an_object x m o j.0 w l (subst (λ k. IsObjectNamed env k b x o) n named) j.1 (subst (λ y. Step env (behind_global env true x y)) i.1 z))))
 
     by_kind : (f k : Bool) → declares_function d ≡ f → defines class m ≡ k → declared_part env b at class s d m f x ≡ fine q → Step env (behind_declared env b at class s d m f x) → Gives env b (behind_declared env b at class s d m f x) (after_declared env b at s d m (not f && k) (Some x)) q [] (if not f && k then x.name ∷ [] else [])
     by_kind true k g n e z =
@@ -210,7 +220,17 @@ parts_give (more_parts d m ps) env w b at class s q l e =
 
 definition_gives : (env : Env) → IsFileRight env → (b : Before) (at : ℕ) (s : Spec) (d : Declarator) (body : Stmt) (o : Option Ident) (q : Output) (k : Bool) → declares_function d ≡ k → IsNamed o → IsStmtLexical body → function_named env b at s d body k o ≡ fine q
     → Gives env b (behind_function_named env at s d o) (past b (calls_of_block (items_of_body body)) (held_by_typed (behind_function_named env at s d o) d (items_of_body body) (type_declared env at s d))) q (name_or_empty o ∷ []) []
-definition_gives env w b at s d body (Some x) q true k n l e = a_definition at s d body x w n l k e (definition_step env b at s d body (Some x) q true k w e)
+definition_gives env w b at s d body (Some x) q true k n l e =
+    let is : BlockItems = items_of_body body in
+    let inner : Env = behind_defined env at s d x in
+    let i = first_fine (function_declared env true at s d x) (on (type_declared env at s d) (defined_as inner b (place_or at d) d x is)) (λ _ f. fine (output_of_function f)) q e in
+    let j = on_fine (type_declared env at s d) (function_meaning env true x) i.0 i.2 in
+    let h = on_fine (type_declared env at s d) (defined_as inner b (place_or at d) d x is) i.1 i.3 in
+    let same : j.0 ≡ h.0 = fine_same j.0 h.0 (sym j.1 ∙ h.1) in
+    let named : IsFunctionNamed env true x h.0 i.0 = held (IsFunctionNamed env true x h.0) (function_meaning env true x h.0) i.0 (function_meant env true x h.0) (subst (λ t. function_meaning env true x t ≡ fine i.0) same j.2) in
+    subst (λ r. Gives env b inner (past b (calls_of_block is) (held_by_typed inner d is r)) q (x.name ∷ []) []) (sym h.1)
+    (subst (λ p. Gives env b inner (past b (calls_of_block is) (held_by_type inner d is h.0)) p (x.name ∷ []) []) (output_same (output_of_function i.1) q i.4)
+    (a_definition at s d body x i.0 h.0 i.1 w n l k i.2 h.1 named h.2 (definition_step env b at s d body (Some x) q true k w e)))
 definition_gives env w b at s d body o q false k n l e = absurd (cc)
 definition_gives env w b at s d body None q true k n l e = absurd (cc)
 
@@ -244,9 +264,7 @@ items_give (more_items i is) env w b q l e =
 pub gives_defined : {env inner : Env} {b a : Before} {q : Output} {xs ys : List Name} → Gives env b inner a q xs ys → Defines env inner xs
 gives_defined (starts {env = e} w) = nothing_same e e refl refl
 gives_defined {env} {inner} {xs = xs} (declares {middle = c} h s d) = subst (Defines env inner) (nothing_more xs) (defines_both env c inner xs [] (gives_step h).1 s.1 (gives_defined h) d)
-gives_defined {env} (an_object x m r o w l e n f s) = nothing_named env x.name (meaning_or_unknown (meaning_of_global env true x r)) (object_means env true x r)
-gives_defined {env} (a_definition at s d body x w n l k e t) =
-    let r : Checked Meaning = function_declared env true at s d x in
-    let f = first_fine r (on (type_declared env at s d) (defined_as (behind_defined env at s d x) _ (place_or at d) d x (items_of_body body))) (λ _ f. fine (output_of_function f)) _ e in
-    definition_defines env w x r f.0 f.2 (held (IsFunctionDeclared env true x) r f.0 (function_declared_right env true x at s d k) f.2)
+gives_defined {env} (an_object x m o gs w l n f s) = nothing_named env x.name (meaning_or_unknown (meaning_of_global env true x (fine o))) (object_means env true x (fine o))
+gives_defined {env} (a_definition at s d body x m u f w n l k c e h g t) =
+    definition_defines env w x (function_declared env true at s d x) m c (held (IsFunctionDeclared env true x) (function_declared env true at s d x) m (function_declared_right env true x at s d k) c)
 gives_defined {env} {inner} (one_and_more {middle = c} {xs = xs} {zs = zs} h k) = defines_both env c inner xs zs (gives_step h).1 (gives_step k).1 (gives_defined h) (gives_defined k)

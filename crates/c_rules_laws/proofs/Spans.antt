@@ -33,6 +33,7 @@ use Rattle.c_rules_laws.proofs.NamesOfItems.{Gives, starts, declares, an_object,
 use Rattle.c_rules_laws.proofs.KnownCells.{static_known}
 use Rattle.c_rules.proofs.NothingMore.{nothing_more}
 use Rattle.c_rules.specs.Names.{Name}
+use Rattle.c_rules.specs.TypedExpression.{TypedExpression}
 
 -- what stands before a part, what stands behind it, and what it gives
 pub record Spans (b a : Before) (q : Output) : Type 0 where
@@ -86,25 +87,21 @@ string_many : (ws : List (List ℕ)) → length ws ≤ string_cells ws
 string_many [] = omega arith
 string_many (w ∷ ws) = (let l = string_many ws in omega (arith, l))
 
-object_span : (env : Env) → IsFileRight env → (b : Before) (x : Ident) (m : MaybeInit) (r : Checked Object) (o : Object) (q : Output) → r ≡ fine o → IsObjectNamed env true b x o → global env true b x m r ≡ fine q → Spans b (after_global env b m (fine o)) q
-object_span env w b x m r o q e h f =
-    let inner : Env = within_global env true x r in
-    let i = on_fine r (definition_of inner b m) q f in
-    let same : i.0 ≡ o = fine_same i.0 o (sym i.1 ∙ e) in
-    let g : definition_of inner b m o ≡ fine q = subst (λ z. definition_of inner b m z ≡ fine q) same i.2 in
+object_span : (env : Env) → IsFileRight env → (b : Before) (x : Ident) (m : MaybeInit) (o : Object) (gs : List TypedExpression) → IsObjectNamed env true b x o
+    → initialised_static (within_global env true x (fine o)) (after_object (within_global env true x (fine o)) b o.whole) o.whole m ≡ fine gs → Spans b (after_global env b m (fine o)) (static_of o gs)
+object_span env w b x m o gs h e =
+    let inner : Env = within_global env true x (fine o) in
     let start : Before = after_object inner b o.whole in
-    let j = on_fine (initialised_static inner start o.whole m) (λ gs. fine (static_of o gs)) q g in
     let n : ℕ = calls_of_maybe_init m in
     let ws : List (List ℕ) = held_by env o.whole m in
     let seen : held_by inner o.whole m ≡ ws = held_by_named_same m env x.name _ o.whole in
-    let counted : InitCounted start n (held_by inner o.whole m) j.0 = held (InitCounted start n (held_by inner o.whole m)) (initialised_static inner start o.whole m) j.0 (static_counted m inner w.runs start o.whole) j.1 in
-    let known : AllKnown j.0 = held AllKnown (initialised_static inner start o.whole m) j.0 (static_known m inner start o.whole) j.1 in
-    let none : n ≡ 0 = no_range b.sites n (known_sites j.0 (Span start n) known counted.0) in
+    let counted : InitCounted start n (held_by inner o.whole m) gs = held (InitCounted start n (held_by inner o.whole m)) (initialised_static inner start o.whole m) gs (static_counted m inner w.runs start o.whole) e in
+    let known : AllKnown gs = held AllKnown (initialised_static inner start o.whole m) gs (static_known m inner start o.whole) e in
+    let none : n ≡ 0 = no_range b.sites n (known_sites gs (Span start n) known counted.0) in
     let fits : FitsAt start n ws = subst (FitsAt start n) seen counted.1 in
     let some = has_cell (layout_of env) (are_structs (layout_of env) w.names_known.sound) o.whole h.right.known in
     let many = string_many ws in
-    subst (Spans b (after_global env b m (fine o))) (output_same (static_of o j.0) q j.2)
-    (record {
+    record {
       count = 0;
       sites = refl;
       counted = omega (arith, none);
@@ -114,7 +111,7 @@ object_span env w b x m r o q e h f =
       sites_fit = λ l. omega (arith, none, l);
       cells_fit = λ _. fits.cells_fit (h.few refl);
       many = omega (arith, some, many);
-    })
+    }
 
 -- ## Functions
 
@@ -148,24 +145,16 @@ one_function b n ws f h = record {
   many = (let l = string_many ws in omega (arith, l));
 }
 
-definition_span : (env : Env) → IsFileRight env → (b : Before) (at : ℕ) (s : Spec) (d : Declarator) (body : Stmt) (x : Ident) (q : Output) → function_named env b at s d body true (Some x) ≡ fine q
-    → Spans b (past b (calls_of_block (items_of_body body)) (held_by_typed (behind_defined env at s d x) d (items_of_body body) (type_declared env at s d))) q
-definition_span env w b at s d body x q e =
-    let is : BlockItems = items_of_body body in
-    let inner : Env = behind_defined env at s d x in
-    let i = first_fine (function_declared env true at s d x) (on (type_declared env at s d) (defined_as inner b (place_or at d) d x is)) (λ _ f. fine (output_of_function f)) q e in
-    let j = on_fine (type_declared env at s d) (defined_as inner b (place_or at d) d x is) i.1 i.3 in
-    let h : IsSpan b (calls_of_block is) (held_by_type inner d is j.0) (sites_of_function i.1) = function_span inner w.runs b (place_or at d) d x is j.0 i.1 j.2 in
-    subst (λ r. Spans b (past b (calls_of_block is) (held_by_typed inner d is r)) q) (sym j.1)
-    (subst (Spans b (past b (calls_of_block is) (held_by_type inner d is j.0))) (output_same (output_of_function i.1) q i.4) (one_function b (calls_of_block is) (held_by_type inner d is j.0) i.1 h))
-
 -- ## Items
 
 pub gives_spans : {env inner : Env} {b a : Before} {q : Output} {xs ys : List Name} → Gives env b inner a q xs ys → Spans b a q
 gives_spans (starts {b = b} w) = spans_none b
 gives_spans (declares h s d) = gives_spans h
-gives_spans {env} {b = b} {q = q} (an_object x m r o w l e n f s) = object_span env w b x m r o q e n f
-gives_spans {env} {b = b} {q = q} (a_definition at s d body x w n l k e t) = definition_span env w b at s d body x q e
+gives_spans {env} {b = b} (an_object x m o gs w l n f s) = object_span env w b x m o gs n f
+gives_spans {env} {b = b} (a_definition at s d body x m u f w n l k c e h g t) =
+    let is : BlockItems = items_of_body body in
+    let inner : Env = behind_defined env at s d x in
+    one_function b (calls_of_block is) (held_by_type inner d is u) f (function_span inner w.runs b (place_or at d) d x is u f g)
 gives_spans (one_and_more {b = b} {c = c} {a = a} {q = q} {r = r} h k) = spans_both b c a q r (gives_spans h) (gives_spans k)
 
 pub items_span : (is : Items) (env : Env) → IsFileRight env → (b : Before) (q : Output) → IsUnitLexical is → items env b is ≡ fine q → Spans b (after_items env b is) q

@@ -77,19 +77,15 @@ module _ (p : Program) (last : Env) (table : IsTable p last) (all : List (List �
   body_lexical (syntax.block at is) h = h
   body_lexical body h = (h, tt)
 
-  definition_right : (env : Env) → IsFileRight env → (b : Before) (at : ℕ) (s : Spec) (d : Declarator) (body : Stmt) (x : Ident) (q : Output) → declares_function d ≡ true → IsStmtLexical body → function_named env b at s d body true (Some x) ≡ fine q → Step env (behind_defined env at s d x) → Follows (behind_defined env at s d x) last
-      → Begins (b.strings ++ held_by_typed (behind_defined env at s d x) d (items_of_body body) (type_declared env at s d)) all → IsOutputRight q
-  definition_right env w b at s d body x q n l e step g h =
+  definition_right : (env : Env) (b : Before) (at : ℕ) (s : Spec) (d : Declarator) (body : Stmt) (x : Ident) (u : CType) (f : Function) → declares_function d ≡ true → IsStmtLexical body → type_declared env at s d ≡ fine u → defined_as (behind_defined env at s d x) b (place_or at d) d x (items_of_body body) u ≡ fine f
+      → Step env (behind_defined env at s d x) → Follows (behind_defined env at s d x) last → Begins (b.strings ++ held_by_type (behind_defined env at s d x) d (items_of_body body) u) all → IsOutputRight (output_of_function f)
+  definition_right env b at s d body x u f n l e i step g h =
       let is : BlockItems = items_of_body body in
       let inner : Env = behind_defined env at s d x in
-      let i = first_fine (function_declared env true at s d x) (on (type_declared env at s d) (defined_as inner b (place_or at d) d x is)) (λ _ f. fine (output_of_function f)) q e in
-      let j = on_fine (type_declared env at s d) (defined_as inner b (place_or at d) d x is) i.1 i.3 in
-      let u : CType = j.0 in
-      let made : Made (layout_of env) u = held (Made (layout_of env)) (type_declared env at s d) u (type_declared_made env at s d) j.1 in
-      let fit : ParamsFit (parameters_of d) u = held (ParamsFit (parameters_of d)) (type_declared env at s d) u (type_fits env at s d n) j.1 in
-      let strings : StringsIn p [] (string_number inner b) (held_by_type inner d is u) = strings_here inner g b (held_by_type inner d is u) (subst (λ r. Begins (b.strings ++ held_by_typed inner d is r) all) j.1 h) in
-      let f = function_right p last table inner step.0 g b (place_or at d) d x is u i.1 made fit (body_lexical body l) strings j.2 in
-      subst IsOutputRight (output_same (output_of_function i.1) q i.4) ((f.0, tt), tt)
+      let made : Made (layout_of env) u = held (Made (layout_of env)) (type_declared env at s d) u (type_declared_made env at s d) e in
+      let fit : ParamsFit (parameters_of d) u = held (ParamsFit (parameters_of d)) (type_declared env at s d) u (type_fits env at s d n) e in
+      let r = function_right p last table inner step.0 g b (place_or at d) d x is u f made fit (body_lexical body l) (strings_here inner g b (held_by_type inner d is u) h) i in
+      ((r.0, tt), tt)
 
   -- ## Objects
 
@@ -102,33 +98,26 @@ module _ (p : Program) (last : Env) (table : IsTable p last) (all : List (List �
   cells_zip (t ∷ ts) (g ∷ gs) h k = (known_value t g.constant k.0 (subst (λ u. ConstRight p u g.constant) h.0 h.1.3), cells_zip ts gs h.2 k.1)
   cells_zip ts gs h k = absurd h
 
-  global_right : (env : Env) → IsFileRight env → (b : Before) (x : Ident) (m : MaybeInit) (r : Checked Object) (q : Output) (o : Object) → r ≡ fine o → IsObjectNamed env true b x o → IsFileRight (behind_global env true x r) → IsMaybeInitLexical m → global env true b x m r ≡ fine q → Follows env last → Follows (behind_global env true x r) last
-      → Begins (b.strings ++ held_by env o.whole m) all → IsOutputRight q
-  global_right env w b x m r q o e h v l f g0 g s =
-      let i = on_fine r (definition_of (within_global env true x r) b m) q f in
-      let same : i.0 ≡ o = fine_same i.0 o (sym i.1 ∙ e) in
+  global_right : (env : Env) → IsFileRight env → (b : Before) (x : Ident) (m : MaybeInit) (o : Object) (gs : List TypedExpression) → IsObjectNamed env true b x o → IsFileRight (behind_global env true x (fine o)) → IsMaybeInitLexical m
+      → initialised_static (within_global env true x (fine o)) (after_object (within_global env true x (fine o)) b o.whole) o.whole m ≡ fine gs → Follows env last → Follows (behind_global env true x (fine o)) last → Begins (b.strings ++ held_by env o.whole m) all → IsOutputRight (static_of o gs)
+  global_right env w b x m o gs h v l f g0 g s =
       let d : Bool = is_defined_by true (declared_here env x.name) in
       let inner : Env = with_name env x.name (a_static o.seen o.whole d) in
-      let within : within_global env true x r ≡ inner = ap (λ z. with_name env x.name (meaning_or_unknown (seen_of_global env true x z))) e in
-      let f2 : definition_of inner b m o ≡ fine q = subst (λ z. definition_of inner b m z ≡ fine q) same (subst (λ z. definition_of z b m i.0 ≡ fine q) within i.2) in
-      let j = on_fine (initialised_static inner (after_object inner b o.whole) o.whole m) (λ gs. fine (static_of o gs)) q f2 in
       let w0 : IsRight p [] env = scope_right p [] env last w g0 table in
       let sized : IsSized (layout_of env) o.whole = sized_few (layout_of env) o.whole h.right.whole_made h.right.small in
-      let meaning : meaning_or_unknown (meaning_of_global env true x r) ≡ a_static o.whole o.whole d = ap (λ z. meaning_or_unknown (meaning_of_global env true x z)) e in
-      let stands = object_at p [] (behind_global env true x r) last v g table x.name (record { name = x.name; depth = env.depth; means = meaning_or_unknown (meaning_of_global env true x r) }) o.whole o.whole d (just_declared env x.name (meaning_or_unknown (meaning_of_global env true x r))) meaning in
+      let stands = object_at p [] (behind_global env true x (fine o)) last v g table x.name (record { name = x.name; depth = env.depth; means = a_static o.whole o.whole d }) o.whole o.whole d (just_declared env x.name (a_static o.whole o.whole d)) refl in
       let w1 : IsRight p [] inner = right_named p [] env x.name (a_static o.seen o.whole d) w0 (h.right.seen_sized, sized) (λ y z. subst (λ y. MeaningRight p [] env y (a_static o.seen o.whole d)) z (h.right.alike, h.right.thing, h.right.known, h.right.small, stands)) in
       let strings : StringsIn p [] (string_number inner (after_object inner b o.whole)) (held_by inner o.whole m) = subst (StringsIn p [] (string_number env b)) (sym (held_by_named_same m env x.name (a_static o.seen o.whole d) o.whole)) (strings_here env g0 b (held_by env o.whole m) s) in
-      let cells = held (λ gs. TypesAre p [] (flat (layout_of env) o.whole) gs × AllKnown gs) (initialised_static inner (after_object inner b o.whole) o.whole m) j.0 (static_right p [] m inner w1 l (after_object inner b o.whole) o.whole h.right.whole_made h.right.known strings) j.1 in
+      let cells = held (λ gs. TypesAre p [] (flat (layout_of env) o.whole) gs × AllKnown gs) (initialised_static inner (after_object inner b o.whole) o.whole m) gs (static_right p [] m inner w1 l (after_object inner b o.whole) o.whole h.right.whole_made h.right.known strings) f in
       let object : IsObject p.structs o.whole = record { complete = complete_in (layout_of env) p.structs w0.within o.whole h.right.known; few = subst (λ k. k ≤ 65536) (cells_in (layout_of env) p.structs w0.within o.whole h.right.known) h.right.small } in
-      subst IsOutputRight (output_same (static_of o j.0) q j.2)
-      (tt, (record { object = object; typed = cells_zip (flat p.structs o.whole) j.0 (subst (λ ts. TypesAre p [] ts j.0) (sym (same_flat (layout_of env) p.structs w0.within.sound w0.within.grows o.whole h.right.known)) cells.0) cells.1 }, tt))
+      (tt, (record { object = object; typed = cells_zip (flat p.structs o.whole) gs (subst (λ ts. TypesAre p [] ts gs) (sym (same_flat (layout_of env) p.structs w0.within.sound w0.within.grows o.whole h.right.known)) cells.0) cells.1 }, tt))
 
   -- strings before a part are among those behind it
   gives_right : {env inner : Env} {b a : Before} {q : Output} {xs ys : List Name} → Gives env b inner a q xs ys → Follows inner last → Begins a.strings all → IsOutputRight q
   gives_right (starts w) g h = (tt, tt)
   gives_right {inner = inner} (declares {middle = c} k s d) g h = gives_right k (follows_on c inner last s.1 g) h
-  gives_right {env} {b = b} {q = q} (an_object x m r o w l e n f s) g h = global_right env w b x m r q o e n s.0 l f (follows_on env (behind_global env true x r) last s.1 g) g h
-  gives_right {env} {b = b} {q = q} (a_definition at s d body x w n l k e t) g h = definition_right env w b at s d body x q k l e t g h
+  gives_right {env} {b = b} (an_object x m o gs w l n f s) g h = global_right env w b x m o gs n s.0 l f (follows_on env (behind_global env true x (fine o)) last s.1 g) g h
+  gives_right {env} {b = b} (a_definition at s d body x m u f w n l k c e i j t) g h = definition_right env b at s d body x u f k l e j t g h
   gives_right {inner = inner} (one_and_more {middle = e} {c = c} {a = a} {q = q} {r = r} j k) g h =
       let more = gives_spans k in
       output_both q r (gives_right j (follows_on e inner last (gives_step k).1 g) (begins_on c.strings a.strings all (more.more, more.strings) h)) (gives_right k g h)

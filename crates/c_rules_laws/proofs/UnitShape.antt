@@ -23,6 +23,7 @@ use Rattle.c_rules_laws.proofs.FileItems.{form_step, function_meant, IsFunctionN
 use Rattle.c_rules_laws.proofs.DistinctNames.{itself}
 pub use Rattle.c_rules_laws.proofs.NamesOfItems.{output_same}
 use Rattle.c_rules_laws.proofs.NamesOfItems.{defined_true, Gives, starts, declares, an_object, a_definition, one_and_more, gives_step}
+use Rattle.c_rules.specs.TypedExpression.{TypedExpression}
 
 -- two lists side by side
 abbrev pub Zip : {A B : Type 0} → (A → B → Type 0) → List A → List B → Type 0
@@ -88,41 +89,27 @@ type_same t u e = cc
 
 -- ## Functions and objects
 
-definition_shape : (last env : Env) (b : Before) (at : ℕ) (s : Spec) (d : Declarator) (body : Stmt) (x : Ident) (p : Output) → IsFileRight env → IsName x.name → function_named env b at s d body true (Some x) ≡ fine p → Follows (behind_function_named env at s d (Some x)) last → HasShape last (x.name ∷ []) [] p
-definition_shape last env b at s d body x p w n e g =
+definition_shape : (last env : Env) (b : Before) (at : ℕ) (s : Spec) (d : Declarator) (is : BlockItems) (x : Ident) (m : Meaning) (u : CType) (f : Function) → IsName x.name → function_declared env true at s d x ≡ fine m → IsFunctionNamed env true x u m
+    → defined_as (behind_defined env at s d x) b (place_or at d) d x is u ≡ fine f → Follows (behind_defined env at s d x) last → HasShape last (x.name ∷ []) [] (output_of_function f)
+definition_shape last env b at s d is x m u f n c named e g =
     let r : Checked Meaning = function_declared env true at s d x in
-    let i = first_fine r (on (type_declared env at s d) (defined_as (behind_defined env at s d x) b (place_or at d) d x (items_of_body body))) (λ _ f. fine (output_of_function f)) p e in
-    let m : Meaning = i.0 in
-    let f : Function = i.1 in
-    let j = on_fine (type_declared env at s d) (function_meaning env true x) m i.2 in
-    let k = on_fine (type_declared env at s d) (defined_as (behind_defined env at s d x) b (place_or at d) d x (items_of_body body)) f i.3 in
-    let u : CType = j.0 in
-    let same : k.0 ≡ u = type_same k.0 u (sym k.1 ∙ j.1) in
-    let named : IsFunctionNamed env true x u m = held (IsFunctionNamed env true x u) (function_meaning env true x u) m (function_meant env true x u) j.2 in
-    let shape = function_shape (behind_defined env at s d x) b (place_or at d) d x (items_of_body body) k.0 f k.2 in
-    let means : meaning_or_unknown r ≡ a_function u (is_defined_by true (declared_here env x.name)) = ap meaning_or_unknown i.2 ∙ named.is in
+    let shape = function_shape (behind_defined env at s d x) b (place_or at d) d x is u f e in
+    let means : meaning_or_unknown r ≡ a_function u (is_defined_by true (declared_here env x.name)) = ap meaning_or_unknown c ∙ named.is in
     let here = just_declared (record env { functions = with_new env.functions x.name }) x.name (meaning_or_unknown r) in
     let later = g.later x.name (record { name = x.name; depth = env.depth; means = meaning_or_unknown r }) here in
     let last_means : later.0.means ≡ a_function u true = later_function u (is_defined_by true (declared_here env x.name)) later.0.means (subst (λ z. Agrees z later.0.means) means later.2) (defined_true (declared_here env x.name)) in
-    subst (HasShape last (x.name ∷ []) []) (output_same (output_of_function f) p i.4)
-    (record { functions = ((shape.0, n, (later.0, later.1, last_means ∙ ap (λ t. a_function t true) (sym (shape.1 ∙ same)))), tt); statics = tt })
+    record { functions = ((shape.0, n, (later.0, later.1, last_means ∙ ap (λ t. a_function t true) (sym shape.1))), tt); statics = tt }
 
-object_shape : (last env : Env) (b : Before) (x : Ident) (m : MaybeInit) (r : Checked Object) (p : Output) → global env true b x m r ≡ fine p → Follows (behind_global env true x r) last → HasShape last [] (x.name ∷ []) p
-object_shape last env b x m r p e g =
-    let i = on_fine r (definition_of (within_global env true x r) b m) p e in
-    let o : Object = i.0 in
-    let inner : Env = within_global env true x r in
-    let j = on_fine (initialised_static inner (after_object inner b o.whole) o.whole m) (λ gs. fine (static_of o gs)) p i.2 in
-    let means : meaning_or_unknown (meaning_of_global env true x r) ≡ a_static o.whole o.whole (is_defined_by true (declared_here env x.name)) = ap (λ z. meaning_or_unknown (meaning_of_global env true x z)) i.1 in
-    let here = just_declared env x.name (meaning_or_unknown (meaning_of_global env true x r)) in
-    let later = g.later x.name (record { name = x.name; depth = env.depth; means = meaning_or_unknown (meaning_of_global env true x r) }) here in
-    let l = later_object o.whole o.whole (is_defined_by true (declared_here env x.name)) later.0.means (subst (λ z. Agrees z later.0.means) means later.2) in
-    subst (HasShape last [] (x.name ∷ [])) (output_same (static_of o j.0) p j.2)
-    (record { functions = tt; statics = ((refl, (later.0, l.0, l.1, later.1, l.2)), tt) })
+object_shape : (last env : Env) (x : Ident) (o : Object) (gs : List TypedExpression) → Follows (behind_global env true x (fine o)) last → HasShape last [] (x.name ∷ []) (static_of o gs)
+object_shape last env x o gs g =
+    let m : Meaning = a_static o.whole o.whole (is_defined_by true (declared_here env x.name)) in
+    let later = g.later x.name (record { name = x.name; depth = env.depth; means = m }) (just_declared env x.name m) in
+    let l = later_object o.whole o.whole (is_defined_by true (declared_here env x.name)) later.0.means later.2 in
+    record { functions = tt; statics = ((refl, (later.0, l.0, l.1, later.1, l.2)), tt) }
 
 pub gives_shape : (last : Env) {env inner : Env} {b a : Before} {q : Output} {xs ys : List Name} → Gives env b inner a q xs ys → Follows inner last → HasShape last xs ys q
 gives_shape last (starts w) g = shape_none last
 gives_shape last {inner = inner} (declares {middle = c} h s d) g = gives_shape last h (follows_on c inner last s.1 g)
-gives_shape last {env} {b = b} {q = q} (an_object x m r o w l e n f s) g = object_shape last env b x m r q f g
-gives_shape last {env} {b = b} {q = q} (a_definition at s d body x w n l k e t) g = definition_shape last env b at s d body x q w n e g
+gives_shape last {env} (an_object x m o gs w l n f s) g = object_shape last env x o gs g
+gives_shape last {env} {b = b} (a_definition at s d body x m u f w n l k c e h i t) g = definition_shape last env b at s d (items_of_body body) x m u f n c h i g
 gives_shape last {inner = inner} (one_and_more {middle = c} {q = q} {r = r} {xs = xs} {ys = ys} {zs = zs} {ws = ws} h k) g = shape_both last xs ys zs ws q r (gives_shape last h (follows_on c inner last (gives_step k).1 g)) (gives_shape last k g)
