@@ -17,7 +17,6 @@ use Rattle.c_rules.specs.Conversions.{valued}
 use Rattle.c_rules.specs.PostfixExpressions.{Callee, site_of, callee_by_value, called, member_of}
 use Rattle.c_rules.specs.UnaryExpressions.{address, indirection, unary_of_value, size_of_expression, size_of_type, cast_of, null_cast}
 use Rattle.c_rules.specs.BinaryExpressions.{sum, choice}
-use Rattle.c_rules.specs.BinaryExpressions.{operator_of_code}
 use Rattle.c_rules.specs.Assignments.{assignable, assignment_by, step, comma_of}
 use Rattle.c_rules.specs.Declarators.{name_of, place_or, place_of_type, is_void_spec, is_bare_pointer, is_void_pointer, array_of, function_of, parameter_of, array_size, behind_parameter}
 use Rattle.c_rules.specs.Expressions.{value_at, place_at, callee_meant, callee_bound, callee, access, after_operand, before_operand, unary_rule, infix_rule, cast_rule, tree, trees, type_named, declared, size_in, parameters, value, folded_value, type_declared, type_of_parameter}

@@ -13,7 +13,7 @@ use Rattle.c_tree.specs.Kinds.{IsConstant}
 use Rattle.c_syntax.specs.Tree.{Ident, Spec, Declarator, no_init, Declarators, no_declarators, more_declarators, Members, no_members, more_members}
 use Rattle.c_rules.specs.Checked.{on}
 use Rattle.c_rules.specs.Names.{Name, number_among, given_names, given_types}
-use Rattle.c_rules.specs.Scopes.{Env, Binding, Meaning, a_static, a_local, a_function, an_enumerator, unknown, Struct, incomplete, defined_struct, Member, type_of_member, types_of_struct, struct_of, tag_number, layout_of, with_struct, with_name, lookup, evaluated}
+use Rattle.c_rules.specs.Scopes.{Env, Binding, Meaning, a_static, a_local, a_function, an_enumerator, Struct, incomplete, defined_struct, Member, type_of_member, types_of_struct, struct_of, tag_number, layout_of, with_struct, with_name, lookup, evaluated}
 use Rattle.c_rules.specs.Conversions.{complete}
 use Rattle.c_rules.specs.Declarators.{name_of, place_or}
 use Rattle.c_rules.specs.Expressions.{type_declared}

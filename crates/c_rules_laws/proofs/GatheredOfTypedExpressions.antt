@@ -1,26 +1,24 @@
 -- What is gathered at calls, in what the rules on expressions give, is what is gathered in their parts, in order; a constant has none.
-use Rattle.std.proofs.Common.{◌≡◌, ℕ, ℤ, map, Bool, true, false, ◌&&◌, ◌||◌, List, [], ◌∷◌, ◌++◌, length, Option, Some, None, nat_eq, refl, ap, ap₂, sym, subst, ◌∙◌, arith}
+use Rattle.std.proofs.Common.{◌≡◌, ℕ, ℤ, Bool, true, ◌&&◌, List, [], ◌∷◌, ◌++◌, length, refl, ap, ap₂, sym, subst, ◌∙◌, arith}
 use Rattle.c_tree.specs.declared.value.IntType.{IntType}
-use Rattle.c_tree.specs.declared.value.UnOp.{UnOp}
 use Rattle.c_tree.specs.declared.value.UnOp.TheVariants.{Not}
 use Rattle.c_tree.specs.declared.value.BinOp.{BinOp}
 use Rattle.c_tree.specs.declared.value.BinOp.TheVariants as op
-use Rattle.c_lexer.specs.declared.punctuator.TheConstants.{ASTERISK, PLUS, MINUS, TILDE, ASSIGN}
 use Rattle.c_tree.specs.Tree.{CType, void, integer, pointer, array, struct, function, CTypes, no_types, more_types, Expr, Exprs, type_of}
 use Rattle.c_tree.specs.Gathered.{Gathering, gathered, gathered_all}
 use Rattle.c_tree.specs.Layout.{cells}
-use Rattle.c_tree.specs.Operands.{promoted, common, OperatorKind, balanced, shift, ordering, equality}
+use Rattle.c_tree.specs.Operands.{promoted}
 use Rattle.c_tree.specs.Operands.{kind_of as kind_of_operator}
-use Rattle.c_rules.specs.Names.{Name, number_among}
-use Rattle.c_rules.specs.Types.{same_type, is_integer, is_function, is_scalar, is_void, count}
-use Rattle.c_rules.specs.Scopes.{Env, Struct, defined_struct, Member, struct_of, layout_of}
-use Rattle.c_rules.specs.TypedExpression.{Form, a_value, a_place, behind, Constant, TypedExpression, tree_of_form, tree_of, is_place, is_null, integer_constant}
+use Rattle.c_rules.specs.Names.{Name}
+use Rattle.c_rules.specs.Types.{is_integer, is_scalar, count}
+use Rattle.c_rules.specs.Scopes.{Env, layout_of}
+use Rattle.c_rules.specs.TypedExpression.{Form, a_value, Constant, TypedExpression, tree_of_form, tree_of, is_null, integer_constant}
 use Rattle.c_rules.specs.Constants.{constant_and, constant_or, constant_moved}
-use Rattle.c_rules.specs.Conversions.{Kind, an_integer, a_pointer, neither, kind_of, complete, few_parts, loaded, valued_as, valued, cast_to, has_integer, converted_to, null_of, fits, assigned_as, assigned, as_if_assigned, condition}
-use Rattle.c_rules.specs.PostfixExpressions.{Designator, direct, through, Callee, callee_of_type, callee_through, all_fit, passed, call_of, as_many_as, called, name_of_member, member_or_undeclared, member_of_struct, member_of_type, member_of}
-use Rattle.c_rules.specs.UnaryExpressions.{address_of_form, address_of_type, address, led_to, indirection, plus_of, operator_of, unary_of_value, size_of, cast_of, null_cast}
-use Rattle.c_rules.specs.BinaryExpressions.{shifted, compared_integers, sum_of, sum, minus_of, balanced_of, shift_of, ordered_of, Alike, alike_integers, alike_pointers, unlike, pointers_alike, alike_of, alike, equality_of, arithmetic_of, operation_of, operation, both_scalars, conjunction, disjunction, chosen, arms_of, choice}
-use Rattle.c_rules.specs.Assignments.{assignment, operator_of_assignment, moves, right_type, update_of, assignment_by, one_for, step, trees_of, comma_of}
+use Rattle.c_rules.specs.Conversions.{Kind, an_integer, a_pointer, neither, kind_of, few_parts, loaded, valued_as, valued, cast_to, has_integer, converted_to, null_of, fits, assigned_as, assigned, as_if_assigned, condition}
+use Rattle.c_rules.specs.PostfixExpressions.{Designator, direct, through, Callee, callee_of_type, callee_through, all_fit, passed, call_of, as_many_as, called, member_of}
+use Rattle.c_rules.specs.UnaryExpressions.{address, indirection, unary_of_value, size_of, cast_of, null_cast}
+use Rattle.c_rules.specs.BinaryExpressions.{shifted, compared_integers, sum, operation, both_scalars, conjunction, disjunction, chosen, choice}
+use Rattle.c_rules.specs.Assignments.{operator_of_assignment, right_type, assignment_by, one_for, step, trees_of, comma_of}
 use Rattle.c_rules.proofs.NothingMore.{nothing_more}
 use Rattle.c_rules.proofs.Integers.{size_holds}
 use Rattle.c_rules_laws.proofs.Holding.{Holds, holds_map, demand_holds, behind_demand, and_right, either}

@@ -1,19 +1,19 @@
 -- Names in the scopes of the two units.
-use Rattle.std.proofs.Common.{◌≡◌, ℕ, true, false, cond, if◌then◌else◌, List, [], ◌∷◌, Option, Some, None, refl, ap, sym, subst, arith}
+use Rattle.std.proofs.Common.{◌≡◌, ℕ, false, cond, List, [], ◌∷◌, Option, Some, None, refl, ap, sym, subst}
 use Rattle.std.specs.Prelude.{is_none, bytes_eq}
 use Rattle.c_syntax.specs.Tree.{Ident}
 use Rattle.c_rules.specs.Checked.{Checked, fine, demand, met}
-use Rattle.c_rules.specs.Codes.{C2, C12}
-use Rattle.c_rules.specs.Names.{Name, number_among, is_among, is_reserved, null_calls}
-use Rattle.c_rules.specs.Scopes.{Env, Binding, Meaning, a_static, a_function, unknown, Context, evaluated, sized, folded, lookup, at_depth, declared_here, with_name, meaning_or_unknown}
+use Rattle.c_rules.specs.Codes.{C2}
+use Rattle.c_rules.specs.Names.{Name, is_reserved}
+use Rattle.c_rules.specs.Scopes.{Env, Binding, Meaning, lookup, at_depth, declared_here, with_name, meaning_or_unknown}
 use Rattle.c_rules.specs.TypedExpression.{TypedExpression}
 use Rattle.c_rules.specs.Conversions.{valued}
-use Rattle.c_rules.specs.PrimaryExpressions.{used, given_number, number_or, function_number, function_value_number, typed_function, meant, bound, named_expression}
-use Rattle.c_rules.specs.PostfixExpressions.{site_in, site_of, callee_of_type, callee_by_value}
+use Rattle.c_rules.specs.PrimaryExpressions.{bound, named_expression}
+use Rattle.c_rules.specs.PostfixExpressions.{site_of}
 use Rattle.c_rules.specs.Declarators.{free_name, new_name}
-use Rattle.c_rules.specs.Expressions.{value_at, callee_meant, callee_bound}
+use Rattle.c_rules.specs.Expressions.{value_at, callee_bound}
 use Rattle.c_rules_laws.specs.TypedAlike.{AreUnreserved, MeanAlike, More, instrumented_scope, TypedAlike, beside}
-use Rattle.c_rules_laws.proofs.Leads.{Leads, same_leads, on_leads, both_leads, gives_leads, demand_leads, below_more, then_leads}
+use Rattle.c_rules_laws.proofs.Leads.{Leads, same_leads, both_leads, then_leads}
 use Rattle.c_rules.proofs.Modes.{ArePlain}
 use Rattle.c_rules.proofs.ModeNames.{found_plain, named_leads as twin_named_leads, site_leads as twin_site_leads, callee_bound_leads as twin_callee_leads}
 pub use Rattle.c_rules.proofs.ModeNames.{left, given_same, unreserved, may_more, name_leads, given_leads, free_name_plain, new_name_plain}

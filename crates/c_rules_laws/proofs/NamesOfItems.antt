@@ -1,7 +1,6 @@
 -- Which functions the items of a unit that is fine define.
 use Rattle.std.proofs.Common.{◌≡◌, ◌⊎◌, inl, inr, ℕ, ◌≤◌, ℤ, pos, Bool, true, false, not, ◌&&◌, if◌then◌else◌, cond, List, [], ◌∷◌, Option, Some, None, nat_eq, refl, ap, sym, subst, ◌∙◌, arith, ◌++◌}
 use Rattle.std.specs.Prelude.{is_some, bytes_eq}
-use Rattle.std.specs.Cmp.{nat_eq_equiv}
 use Rattle.std.proofs.lemmas.Slice.Eq.{bytes_eq-Decides}
 use Rattle.dm_base.specs.declared.mode.Mode.{Mode}
 use Rattle.dm_base.specs.declared.mode.Mode.TheVariants.{Plain, Instrumented}
@@ -17,12 +16,12 @@ use Rattle.c_rules.specs.Expressions.{type_declared}
 use Rattle.c_rules.specs.Objects.{Object, object_declared}
 use Rattle.c_rules.specs.Variables.{name_or_empty, calls_of_block}
 use Rattle.c_rules.specs.Functions.{declares_function, given_as, is_as_given, may_follow_function, is_defined_by, behind_function, function_declared, items_of_body, defined_as, held_by_typed, held_by_type, function_meaning}
-use Rattle.c_rules.specs.Items.{Output, no_output, with_output, without_init, output_of_function, defines, struct_definition, struct_or_unknown, enumerator_value, one_more_than, enumerator_meaning, behind_enumerator, behind_enumerators, behind_enum_tag, global_declared, meaning_of_global, declared_part, named_part, behind_declared, behind_named_part, behind_file_part, after_file_part, file_parts, behind_file_parts, behind_defined, function_named, behind_function_named, item, behind_by_form, with_tags, behind_item, after_item, items, behind_items, global, within_global, definition_of, after_declared, after_global, after_file_parts, after_items, new_enum, enumerators, tag_declaration, behind_global, static_of, after_object}
+use Rattle.c_rules.specs.Items.{Output, no_output, with_output, without_init, output_of_function, defines, struct_definition, struct_or_unknown, enumerator_value, one_more_than, enumerator_meaning, behind_enumerator, behind_enumerators, behind_enum_tag, global_declared, meaning_of_global, declared_part, named_part, behind_declared, behind_named_part, behind_file_part, after_file_part, file_parts, behind_file_parts, behind_defined, function_named, behind_function_named, item, behind_by_form, behind_item, after_item, items, behind_items, global, within_global, definition_of, after_declared, after_global, after_file_parts, after_items, new_enum, enumerators, tag_declaration, behind_global, static_of, after_object}
 use Rattle.c_rules.specs.Units.{functions_of_item, functions_of, objects_of_parts, objects_of_item, objects_of}
 use Rattle.c_rules_laws.specs.Lexical.{IsUnitLexical, IsNamed, IsMaybeInitLexical, ArePartsLexical, IsStmtLexical, IsItemLexical}
 use Rattle.c_rules_laws.proofs.Holding.{held, first_fine, and_right, on_fine, fine_same}
-use Rattle.c_rules_laws.proofs.FileScopes.{IsFileRight, follows_on}
-use Rattle.c_rules_laws.proofs.FileItems.{IsFunctionDeclared, function_declared_right, form_step, tags_step, items_step, Step, step_self, step_on, IsObjectNamed, object_named, part_step, definition_step, object_declared_same, here_is, IsFunctionNamed, function_meant}
+use Rattle.c_rules_laws.proofs.FileScopes.{IsFileRight}
+use Rattle.c_rules_laws.proofs.FileItems.{IsFunctionDeclared, function_declared_right, form_step, tags_step, Step, step_self, step_on, IsObjectNamed, object_named, part_step, definition_step, object_declared_same, here_is, IsFunctionNamed, function_meant}
 use Rattle.c_rules_laws.proofs.DistinctNames.{itself, among_first, new_kept, new_there, new_few}
 use Rattle.c_rules_laws.proofs.DefinedNames.{IsDefined, Defines, defines_both, nothing_both, nothing_same, newest_or_older, IsNoFunction, static_no_function, enumerator_no_function, unknown_no_function, nothing_named, nothing_new}
 use Rattle.c_rules.specs.Tags.{tags_of_enumerators}

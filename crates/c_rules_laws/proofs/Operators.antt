@@ -25,9 +25,9 @@ use Rattle.c_rules.specs.PrimaryExpressions.{most_cells_in, used, object_number,
 use Rattle.c_rules.specs.Conversions.{Kind, an_integer, a_pointer, kind_of, few_parts, is_defined, complete, loaded, valued_as, valued, cast_to, converted_to, null_of, fits, assigned, as_if_assigned, condition}
 use Rattle.c_rules.specs.PostfixExpressions.{site_in, site_of, callee_of_type, callee_by_name, callee_through, callee_by_value, Callee, all_fit, passed, call_of, as_many_as, called, name_of_member, member_given, member_or_undeclared, member_of_struct, member_of_type, member_of}
 use Rattle.c_rules.specs.UnaryExpressions.{address_of_form, address_of_type, address, led_to, indirection, plus_of, operator_of, operated, unary_of_value, size_of, cast_of, null_cast}
-use Rattle.c_rules.specs.BinaryExpressions.{shifted, compared_integers, compared_pointers, pointer_plus, plus_pointer, pointer_minus, difference, sum_of, sum, minus_of, balanced_of, shift_of, ordered_of, alike_integers, alike_pointers, unlike, alike_of, equality_of, arithmetic_of, operation_of, operation, both_scalars, conjunction, disjunction, chosen, arms_of, choice, operator_of_code}
+use Rattle.c_rules.specs.BinaryExpressions.{shifted, compared_integers, compared_pointers, pointer_plus, plus_pointer, pointer_minus, difference, sum_of, minus_of, balanced_of, shift_of, ordered_of, alike_integers, alike_pointers, unlike, alike_of, equality_of, arithmetic_of, operation_of, operation, both_scalars, chosen, arms_of, choice, operator_of_code}
 use Rattle.c_rules.specs.BinaryExpressions.{Alike as Operands, alike as operands}
-use Rattle.c_rules.specs.Assignments.{assignable, assignment, operator_of_assignment, right_type, updated, moves, update_of, assignment_by, step, one_for}
+use Rattle.c_rules.specs.Assignments.{assignable, operator_of_assignment, right_type, updated, moves, update_of, assignment_by, step, one_for}
 use Rattle.c_rules_laws.specs.MadeTypes.{NotArray}
 use Rattle.c_rules_laws.specs.RightScopes.{IsThing}
 use Rattle.c_rules_laws.proofs.Holding.{Holds, holds_map, either}

@@ -13,20 +13,20 @@ use Rattle.c_tree.specs.Operands.{IsObject}
 use Rattle.c_tree.specs.Kinds.{IsConstant}
 use Rattle.c_tree.specs.Typed.{IsStaticOf}
 use Rattle.c_syntax.specs.Tree.{Expr, a_name, an_int, a_char, a_str, comma, sizeof_type, cast, call, member, postfix, prefix, unary, index, binary, assign, conditional, Exprs, no_exprs, more_exprs}
-use Rattle.c_syntax.specs.Tree.{Postfix, post_increment, post_decrement, pre_increment, pre_decrement, sizeof, Access, dot, arrow, Infix, and, or, operator}
+use Rattle.c_syntax.specs.Tree.{Postfix, post_increment, post_decrement, pre_increment, pre_decrement, sizeof, Access, dot, arrow}
 use Rattle.c_rules.specs.Checked.{Checked, fine, on, both, gives, demand, met}
 use Rattle.c_rules.specs.Names.{Name, is_among, null_calls}
-use Rattle.c_rules.specs.Scopes.{Env, Binding, Meaning, a_static, a_local, a_function, an_enumerator, unknown, Member, type_of_member, Context, evaluated, sized, in_context, Before, nothing_before, binding_of, layout_of}
+use Rattle.c_rules.specs.Scopes.{Env, Meaning, a_static, a_local, a_function, an_enumerator, unknown, Member, type_of_member, Context, evaluated, sized, in_context, Before, nothing_before, binding_of, layout_of}
 use Rattle.c_rules.specs.Counts.{place_of, calls, strings, strings_of_all, past, after, after_designator}
 use Rattle.c_rules.specs.TypedExpression.{TypedExpression, is_place}
 use Rattle.c_rules.specs.Conversions.{valued}
-use Rattle.c_rules.specs.PrimaryExpressions.{used, object_number, function_number, function_value_number, meant, bound, integer_expression, string_type, string_fits, string_number, typed_string}
+use Rattle.c_rules.specs.PrimaryExpressions.{used, object_number, function_number, function_value_number, meant, integer_expression, string_type, string_fits, string_number, typed_string}
 use Rattle.c_rules.specs.PostfixExpressions.{site_of, callee_of_type, callee_by_value, called, name_of_member, member_of}
 use Rattle.c_rules.specs.UnaryExpressions.{address, indirection, unary_of_value, size_of_expression, size_of_type, cast_of, null_cast}
-use Rattle.c_rules.specs.BinaryExpressions.{operator_of_code, sum, choice}
+use Rattle.c_rules.specs.BinaryExpressions.{sum, choice}
 use Rattle.c_rules.specs.Assignments.{assignable, assignment_by, step, comma_of}
 use Rattle.c_rules.specs.Declarators.{place_of_type, is_void_pointer}
-use Rattle.c_rules.specs.Expressions.{value_at, place_at, callee_meant, callee_bound, callee, access, after_operand, unary_rule, infix_rule, cast_rule, tree, trees, type_named, value}
+use Rattle.c_rules.specs.Expressions.{value_at, place_at, callee, access, after_operand, unary_rule, infix_rule, cast_rule, tree, trees, type_named, value}
 use Rattle.c_rules.proofs.Integers.{integer_cases}
 use Rattle.c_meaning_laws.proofs.Places.{get_left, get_right, length_repeat}
 use Rattle.c_rules_laws.specs.Lexical.{IsLexical, AreLexical, AreSomeExprs}

@@ -1,5 +1,5 @@
 -- What the rules on expressions give is right in a program where their parts are.
-use Rattle.std.proofs.Common.{◌≡◌, ◌⊎◌, inl, inr, ℕ, ◌≤◌, ◌<◌, ℤ, pos, Bool, true, false, not, ◌&&◌, ◌||◌, List, [], ◌∷◌, map, length, get_or, Option, Some, None, slice_get, nat_eq, refl, ap, sym, subst, ◌∙◌, arith, nat_le}
+use Rattle.std.proofs.Common.{◌≡◌, ◌⊎◌, inl, inr, ℕ, ◌≤◌, ◌<◌, ℤ, pos, Bool, true, false, not, ◌&&◌, List, [], ◌∷◌, map, length, get_or, Some, slice_get, nat_eq, refl, ap, sym, subst, ◌∙◌, arith, nat_le}
 use Rattle.std.proofs.lemmas.Option.{slice_get-get_or}
 use Rattle.std.proofs.lemmas.Bool.{leb-true}
 use Rattle.c_lexer.specs.declared.punctuator.TheConstants as punctuators
@@ -23,22 +23,22 @@ use Rattle.c_tree.specs.Typed.{IsValue, IsPlace, AreArguments, AreMembersAfter}
 use Rattle.c_tree.proofs.OperatorLemmas.{value_of_type}
 use Rattle.c_rules.specs.Checked.{fine, met}
 use Rattle.c_rules.specs.Names.{Name, number_among}
-use Rattle.c_rules.specs.Types.{same_type, is_integer, is_function, is_scalar, is_void, count}
-use Rattle.c_rules.specs.Scopes.{Env, Struct, defined_struct, Member, struct_of, type_of_member, layout_of}
+use Rattle.c_rules.specs.Types.{is_integer, is_function, is_scalar, is_void, count}
+use Rattle.c_rules.specs.Scopes.{Env, Member, type_of_member, layout_of}
 use Rattle.c_rules.specs.TypedExpression.{Form, a_value, a_place, behind, Constant, not_constant, known, TypedExpression, tree_of_form, tree_of, is_value, is_place, is_null, integer_constant, typed_value}
 use Rattle.c_rules.specs.Constants.{answered, constant_binary, constant_moved, constant_and, constant_or}
-use Rattle.c_rules.specs.Conversions.{Kind, an_integer, a_pointer, kind_of, few_parts, complete, cast_to, converted_to, null_of, fits}
-use Rattle.c_rules.specs.PostfixExpressions.{Designator, direct, through, Callee, callee_of_type, callee_through, all_fit, passed, call_of, as_many_as, called, name_of_member, member_given, member_or_undeclared, member_of_struct, member_of_type, member_of}
-use Rattle.c_rules.specs.UnaryExpressions.{address_of_form, address_of_type, address, led_to, indirection, plus_of, operator_of, negation, unary_of_value, size_of, cast_of, null_cast}
-use Rattle.c_rules.specs.BinaryExpressions.{shifted, compared_integers, compared_pointers, pointer_plus, plus_pointer, pointer_minus, difference, sum_of, sum, minus_of, balanced_of, shift_of, ordered_of, Alike, alike_integers, alike_pointers, unlike, pointers_alike, alike_of, alike, equality_of, arithmetic_of, operation_of, operation, both_scalars, conjunction, disjunction, chosen, arms_of, choice}
-use Rattle.c_rules.specs.Assignments.{assignment, operator_of_assignment, right_type, updated, moves, update_of, assignment_by, one_for, step, trees_of, last_type, comma_of}
+use Rattle.c_rules.specs.Conversions.{Kind, an_integer, kind_of, complete, cast_to, converted_to, null_of, fits}
+use Rattle.c_rules.specs.PostfixExpressions.{Designator, direct, through, Callee, callee_of_type, callee_through, all_fit, passed, call_of, as_many_as, called, name_of_member, member_given, member_of}
+use Rattle.c_rules.specs.UnaryExpressions.{address, indirection, unary_of_value, size_of, cast_of, null_cast}
+use Rattle.c_rules.specs.BinaryExpressions.{shifted, compared_integers, compared_pointers, plus_pointer, difference, operation, chosen, choice}
+use Rattle.c_rules.specs.Assignments.{operator_of_assignment, right_type, updated, moves, assignment_by, one_for, step, trees_of, last_type, comma_of}
 use Rattle.c_rules.specs.PrimaryExpressions.{typed_unsigned}
 use Rattle.c_meaning_laws.proofs.Places.{struct_is, member_lies, member_few}
 use Rattle.c_rules_laws.specs.MadeTypes.{NotArray, Made, IsSized}
 use Rattle.c_rules_laws.specs.SoundStructs.{AreSound, AreWithin}
 use Rattle.c_rules_laws.proofs.Holding.{Holds, held, on_holds, demand_holds, behind_demand, holds_map, and_left, and_right, either}
-use Rattle.c_rules_laws.proofs.Operators.{kind_pointer, promoted_is, common_is, IsComparison, IsMember, a_member, IsAddress, of_place, of_leader, IsLedTo, led, OfOne, leads, promotes, operates, negates, ArePointers, as_given, left_null, right_null, OfTwo, calculates, compares, orders, equals, adds_right, adds_left, takes, differs, OfChoice, integers_chosen, pointers_chosen, voids_chosen, OfUpdate, assigns, updates, moved, member_agrees, address_agrees, indirection_agrees, unary_agrees, operation_agrees, choice_agrees, assignment_agrees, step_agrees, infix_agrees, joins_and, joins_or}
-use Rattle.c_rules_laws.proofs.MadeTypes.{number_is, scalar_is, type_is, complete_known, scalar_not_array, void_is}
+use Rattle.c_rules_laws.proofs.Operators.{promoted_is, IsComparison, IsMember, a_member, IsAddress, of_place, of_leader, IsLedTo, led, OfOne, leads, promotes, operates, negates, ArePointers, as_given, left_null, right_null, OfTwo, calculates, compares, orders, equals, adds_right, adds_left, takes, differs, OfChoice, integers_chosen, pointers_chosen, voids_chosen, OfUpdate, assigns, updates, moved, member_agrees, address_agrees, indirection_agrees, unary_agrees, operation_agrees, choice_agrees, assignment_agrees, step_agrees, infix_agrees, joins_and, joins_or}
+use Rattle.c_rules_laws.proofs.MadeTypes.{number_is, scalar_is, complete_known, scalar_not_array, void_is}
 use Rattle.c_rules_laws.proofs.SoundStructs.{are_structs, struct_few}
 use Rattle.c_rules_laws.proofs.SizeBounds.{size_bound}
 use Rattle.c_rules_laws.proofs.TypesOfTypedExpressions.{defined_at, sized_few, scalar_result}

@@ -8,7 +8,7 @@ use Rattle.c_tree.specs.declared.tree.TLabel.{TLabel}
 use Rattle.c_tree.specs.declared.tree.TLabel.TheVariants.{Case, Default}
 use Rattle.c_tree.specs.Tree.{CType, integer, Program}
 use Rattle.c_tree.specs.Tree as typed
-use Rattle.c_tree.specs.Operands.{IsScalar, IsPromoted, promoted, IsObject, IsComplete}
+use Rattle.c_tree.specs.Operands.{IsScalar, IsPromoted, promoted}
 use Rattle.c_tree.specs.Operators.{value_of}
 use Rattle.c_tree.specs.Typed.{IsCondition, IsTest, IsStep, IsFirst, AreFirst, IsLabel, defaults_among, defaults, IsStmt, AreStmts, AreGroups}
 use Rattle.c_tree.proofs.OperatorLemmas.{value_of_type}
@@ -31,11 +31,11 @@ use Rattle.c_rules.specs.Blocks.{behind_decl, behind_first, held_by_decl, held_b
 use Rattle.c_rules.specs.Statements.{Around, in_loop, in_switch, condition_at, test_of, step_of, first_of, for_of, switched_kind, switched, label_kind, label_type, labels_of, Labelled, labelled, is_case_of, has_default, are_distinct, switch_of, returned, stmt, items_of_block, stmts, groups_of_switch}
 use Rattle.c_rules_laws.specs.Lexical.{IsMaybeLexical, IsFirstLexical, IsStmtLexical, AreItemsLexical, AreStmtsLexical, AreGroupsLexical, IsLexical}
 use Rattle.c_rules_laws.specs.RightScopes.{IsRight, StringsIn}
-use Rattle.c_rules_laws.proofs.Holding.{Holds, on_holds, both_hold, all_three_hold, demand_holds, and_left, and_right, each_both, Any, anything}
+use Rattle.c_rules_laws.proofs.Holding.{Holds, on_holds, both_hold, all_three_hold, demand_holds, and_left, and_right, Any, anything}
 use Rattle.c_rules_laws.proofs.Operators.{kind_integer, promoted_is}
 use Rattle.c_rules_laws.proofs.RightTypedExpressions.{ValueRight, RightAs, converted_right, fits_scalar, assigned_right, condition_right}
 use Rattle.c_rules_laws.proofs.RightExpressions.{strings_first, strings_rest, ValueBoth, value_right}
-use Rattle.c_rules_laws.proofs.RightDeclarations.{holds_given, placed_first, placed_rest, ahead_both, ahead_none, AreKnownSizes, IsStatementTreeRight, right_inside, join_right, decl_right, strings_moved}
+use Rattle.c_rules_laws.proofs.RightDeclarations.{holds_given, ahead_none, AreKnownSizes, IsStatementTreeRight, right_inside, join_right, decl_right, strings_moved}
 use Rattle.c_rules_laws.proofs.SitesOfStatements.{decl_keeps, first_keeps}
 use Rattle.c_rules_laws.proofs.MadeTypes.{void_is}
 

@@ -4,7 +4,7 @@ use Rattle.std.proofs.lemmas.Bool.{leb-true, ltb-true}
 use Rattle.std.proofs.Math.Nat.{mul-div_cancel}
 use Rattle.std.proofs.lemmas.List.Elements.{All-head, All-tail}
 use Rattle.c_tree.specs.declared.value.IntType.{IntType}
-use Rattle.c_tree.specs.declared.value.IntType.TheVariants.{Char, Int, Uint}
+use Rattle.c_tree.specs.declared.value.IntType.TheVariants.{Int, Uint}
 use Rattle.c_tree.specs.declared.value.UnOp.{UnOp}
 use Rattle.c_tree.specs.declared.value.UnOp.TheVariants.{Minus, Complement, Not}
 use Rattle.c_tree.specs.declared.value.BinOp.{BinOp}
@@ -14,7 +14,7 @@ use Rattle.c_tree.specs.declared.value.Value.TheVariants as v
 use Rattle.c_tree.specs.Tree.{CType, void, integer, pointer, array, struct, function, CTypes, Static, Program, type_of, decay}
 use Rattle.c_tree.specs.Layout.{Structs, repeat, flat, cells, first_cell}
 use Rattle.c_tree.specs.Functions.{int}
-use Rattle.c_tree.specs.Operands.{IsScalar, IsResult, IsComplete, IsObject, IsTarget, IsIntegerType, IsPromoted, promoted, common, Decays, FitsArithmetic}
+use Rattle.c_tree.specs.Operands.{IsScalar, IsResult, IsComplete, IsObject, IsTarget, IsIntegerType, IsPromoted, Decays, FitsArithmetic}
 use Rattle.c_tree.specs.Operators.{Answer, convert, unary, binary, truth, negated}
 use Rattle.c_tree.specs.Operators as operators
 use Rattle.c_tree.specs.OperatorTypes.{IsAnswer, IsGiven}

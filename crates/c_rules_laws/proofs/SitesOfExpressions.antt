@@ -1,5 +1,5 @@
 -- The sites in an expression are the numbers from that of the calls before it on; and the limits on calls and strings hold.
-use Rattle.std.proofs.Common.{◌≡◌, ℕ, zero, suc, ◌+◌, ◌≤◌, ◌<◌, Bool, true, false, List, [], ◌∷◌, ◌++◌, length, Option, Some, None, nat_le, nat_lt, nat_eq, refl, ap, ap₂, sym, subst, ◌∙◌, arith}
+use Rattle.std.proofs.Common.{◌≡◌, ℕ, zero, suc, ◌+◌, ◌≤◌, ◌<◌, Bool, true, false, List, [], ◌∷◌, ◌++◌, length, nat_le, nat_lt, nat_eq, refl, ap, ap₂, sym, subst, ◌∙◌, arith}
 use Rattle.std.specs.List.{range_with_len}
 use Rattle.std.proofs.lemmas.Bool.{leb-true, ltb-true}
 use Rattle.dm_base.specs.declared.mode.Mode.{Mode}
@@ -8,23 +8,23 @@ use Rattle.c_lexer.specs.declared.punctuator.TheConstants.{AMPERSAND}
 use Rattle.c_tree.specs.declared.value.BinOp.TheVariants.{Add, Sub}
 use Rattle.c_tree.specs.Tree.{CType}
 use Rattle.c_syntax.specs.Tree.{Expr, a_name, an_int, a_char, a_str, comma, sizeof_type, cast, call, member, postfix, prefix, unary, index, binary, assign, conditional, Exprs, no_exprs, more_exprs}
-use Rattle.c_syntax.specs.Tree.{Postfix, post_increment, post_decrement, pre_increment, pre_decrement, sizeof, Access, dot, arrow, Infix, and, or, operator}
+use Rattle.c_syntax.specs.Tree.{Postfix, post_increment, post_decrement, pre_increment, pre_decrement, sizeof, Access, dot, arrow}
 use Rattle.c_rules.specs.Checked.{Checked, fine, on, both, gives, demand, met}
 use Rattle.c_rules.specs.Limits.{most_calls}
 use Rattle.c_rules.specs.Names.{Name}
-use Rattle.c_rules.specs.Scopes.{Env, Binding, Meaning, a_static, a_function, unknown, Context, evaluated, sized, in_context, Before, nothing_before, binding_of}
+use Rattle.c_rules.specs.Scopes.{Env, Meaning, a_static, a_function, unknown, Context, evaluated, sized, in_context, Before, nothing_before, binding_of}
 use Rattle.c_rules.specs.Counts.{place_of, calls, calls_of_all, strings, strings_of_all, string_cells, past, after, after_designator}
 use Rattle.c_rules.specs.TypedExpression.{TypedExpression}
 use Rattle.c_rules.specs.Conversions.{valued}
-use Rattle.c_rules.specs.PrimaryExpressions.{used, object_number, function_number, function_value_number, typed_int, meant, bound, integer_expression, string_fits, string_number, typed_string}
+use Rattle.c_rules.specs.PrimaryExpressions.{used, object_number, function_number, function_value_number, meant, bound, string_fits, string_number, typed_string}
 use Rattle.c_rules.specs.PostfixExpressions.{Designator, direct, through, site_in, site_of, callee_of_type, callee_by_value, called, member_of, Callee}
 use Rattle.c_rules.specs.UnaryExpressions.{address, indirection, unary_of_value, size_of, size_of_expression, size_of_type, cast_of, null_cast}
-use Rattle.c_rules.specs.BinaryExpressions.{operator_of_code, sum, choice}
+use Rattle.c_rules.specs.BinaryExpressions.{sum, choice}
 use Rattle.c_rules.specs.Assignments.{assignable, assignment_by, step, comma_of}
 use Rattle.c_rules.specs.Declarators.{place_of_type, is_void_pointer}
-use Rattle.c_rules.specs.Expressions.{value_at, place_at, callee_meant, callee_bound, callee, access, after_operand, unary_rule, infix_rule, cast_rule, tree, trees, type_named, value}
+use Rattle.c_rules.specs.Expressions.{value_at, place_at, callee, access, after_operand, unary_rule, infix_rule, cast_rule, tree, trees, type_named, value}
 use Rattle.c_rules.proofs.Integers.{integer_cases}
-use Rattle.c_rules_laws.proofs.Holding.{Holds, holds_map, holds_two, on_holds, both_hold, all_three_hold, Any, anything, demand_holds, after_part, if_holds, Each, each_both}
+use Rattle.c_rules_laws.proofs.Holding.{Holds, holds_map, on_holds, both_hold, all_three_hold, Any, anything, demand_holds, after_part, if_holds, Each, each_both}
 use Rattle.c_rules_laws.proofs.GatheredOfTypedExpressions.{called_at, Gathers, AllGather, CalleeGathers, valued_gathered, called_gathered, callee_type_gathered, callee_through_gathered, member_gathered, address_gathered, indirection_gathered, unary_gathered, size_gathered, cast_of_gathered, null_cast_gathered, sum_gathered, infix_gathered, assignment_by_gathered, step_gathered, choice_gathered, comma_gathered}
 use Rattle.c_tree.specs.Sites.{all_sites}
 use Rattle.c_rules_laws.proofs.Operators.{bound_holds, callee_holds}

@@ -1,5 +1,5 @@
 -- The sites in statements are the numbers from that of the calls before them on; and the limits on calls and strings hold.
-use Rattle.std.proofs.Common.{◌≡◌, ℕ, suc, ◌+◌, Bool, true, false, if◌then◌else◌, List, [], ◌∷◌, ◌++◌, append_assoc, Option, Some, None, refl, ap, ap₂, sym, subst, ◌∙◌}
+use Rattle.std.proofs.Common.{◌≡◌, ℕ, suc, ◌+◌, List, [], ◌∷◌, ◌++◌, append_assoc, Option, Some, None, refl, ap, ap₂, sym, subst, ◌∙◌}
 use Rattle.c_tree.specs.declared.value.IntType.{IntType}
 use Rattle.c_tree.specs.Tree.{CType, CTypes, more_types}
 use Rattle.c_tree.specs.Tree as typed

@@ -1,26 +1,25 @@
 -- The items of a unit that is fine: the sites in their functions are the numbers of the calls from those before them on, and no limit on calls, strings and cells is passed.
-use Rattle.std.proofs.Common.{◌≡◌, ℕ, zero, suc, ◌+◌, ◌≤◌, Bool, true, false, not, ◌&&◌, List, [], ◌∷◌, ◌++◌, flat_map, length, length-append, append_assoc, Option, Some, None, nat_le, refl, ap, ap₂, sym, subst, ◌∙◌, arith}
+use Rattle.std.proofs.Common.{◌≡◌, ℕ, zero, suc, ◌+◌, ◌≤◌, true, false, List, [], ◌∷◌, ◌++◌, flat_map, length, length-append, append_assoc, nat_le, refl, ap, ap₂, sym, subst, ◌∙◌, arith}
 use Rattle.std.specs.List.{range_with_len}
 use Rattle.c_tree.specs.Tree.{CType, function, CTypes, Function}
 use Rattle.c_tree.specs.Tree as typed
 use Rattle.c_tree.specs.Layout.{cells_of_all}
 use Rattle.c_tree.specs.Sites.{sites_of_function}
-use Rattle.c_syntax.specs.Tree.{Ident, Storage, Spec, Declarator, Params, more_params, MaybeInit, Parts, no_parts, more_parts, decl, Stmt, BlockItems, Item, enum_item, decl_item, function_item, Items, no_items, more_items}
-use Rattle.c_rules.specs.Checked.{Checked, fine, on, demand, met}
+use Rattle.c_syntax.specs.Tree.{Ident, Declarator, Params, MaybeInit, BlockItems, Items}
+use Rattle.c_rules.specs.Checked.{fine, demand, met}
 use Rattle.c_rules.specs.Limits.{most_local_cells}
 use Rattle.c_rules.specs.Scopes.{Env, evaluated, inside, layout_of, Before}
 use Rattle.c_rules.specs.Counts.{string_cells, past}
-use Rattle.c_rules.specs.Declarators.{name_of, place_or}
-use Rattle.c_rules.specs.Expressions.{type_declared}
+use Rattle.c_rules.specs.Declarators.{place_or}
 use Rattle.c_rules.specs.Initialisers.{held_by, calls_of_maybe_init, initialised_static}
-use Rattle.c_rules.specs.Objects.{Object, object_declared}
+use Rattle.c_rules.specs.Objects.{Object}
 use Rattle.c_rules.specs.Variables.{Next, calls_of_block}
 use Rattle.c_rules.specs.Blocks.{StatementTree, held_by_block}
 use Rattle.c_rules.specs.Statements.{Around, items_of_block}
-use Rattle.c_rules.specs.Functions.{declares_function, parameters_of, are_named, with_parameter, with_parameters, variables_of, function_laid, body_env, body_numbers, body_of, held_by_type, held_by_typed, function_declared, items_of_body, defined_as}
-use Rattle.c_rules.specs.Items.{Output, no_output, with_output, static_of, without_init, output_of_function, defines, global_declared, within_global, after_object, definition_of, global, declared_part, named_part, behind_file_part, after_global, after_declared, after_file_part, file_parts, after_file_parts, behind_defined, function_named, behind_function_named, item, behind_item, behind_by_form, after_item, items, after_items}
+use Rattle.c_rules.specs.Functions.{parameters_of, are_named, with_parameters, variables_of, function_laid, body_env, body_numbers, body_of, held_by_type, items_of_body, defined_as}
+use Rattle.c_rules.specs.Items.{Output, no_output, with_output, static_of, output_of_function, within_global, after_object, after_global, behind_defined, items, after_items}
 use Rattle.c_rules_laws.specs.Lexical.{IsUnitLexical}
-use Rattle.c_rules_laws.proofs.Holding.{held, first_fine, on_fine, demand_fine, each_both, fine_same}
+use Rattle.c_rules_laws.proofs.Holding.{held, first_fine, demand_fine, each_both}
 use Rattle.c_rules_laws.proofs.Definitions.{definition_fine}
 use Rattle.c_meaning_laws.proofs.Differences.{has_cell}
 use Rattle.c_rules_laws.proofs.SoundStructs.{are_structs}
@@ -28,8 +27,8 @@ use Rattle.c_rules_laws.proofs.SitesOfExpressions.{AreShort, FitsAt, Span, range
 use Rattle.c_rules_laws.proofs.RightInitialisers.{AllKnown, known_sites, InitCounted, static_counted}
 use Rattle.c_rules_laws.proofs.SitesOfStatements.{IsSpan, StmtsSpan, held_by_named_same, block_span, params_keep}
 use Rattle.c_rules_laws.proofs.FileScopes.{IsFileRight}
-use Rattle.c_rules_laws.proofs.FileItems.{IsObjectNamed, object_named, part_step, form_step, tags_step, object_declared_same}
-use Rattle.c_rules_laws.proofs.NamesOfItems.{Gives, starts, declares, an_object, a_definition, one_and_more, items_give, output_same}
+use Rattle.c_rules_laws.proofs.FileItems.{IsObjectNamed}
+use Rattle.c_rules_laws.proofs.NamesOfItems.{Gives, starts, declares, an_object, a_definition, one_and_more, items_give}
 use Rattle.c_rules_laws.proofs.KnownCells.{static_known}
 use Rattle.c_rules.proofs.NothingMore.{nothing_more}
 use Rattle.c_rules.specs.Names.{Name}

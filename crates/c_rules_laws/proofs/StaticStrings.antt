@@ -1,9 +1,9 @@
 -- Strings that pass no limit are static objects, whose cells are chars.
-use Rattle.std.proofs.Common.{◌≡◌, ℕ, zero, suc, ◌≤◌, pos, List, [], ◌∷◌, ◌++◌, All, map, length, refl, ap, sym, subst, arith, ◌*◌}
+use Rattle.std.proofs.Common.{ℕ, suc, ◌≤◌, pos, List, [], ◌∷◌, ◌++◌, All, map, length, sym, subst, arith, ◌*◌}
 use Rattle.std.specs.List.{AllZip}
 use Rattle.std.proofs.lemmas.List.Elements.{All-nil, All-cons}
 use Rattle.c_tree.specs.declared.value.IntType.TheVariants.{Char}
-use Rattle.c_tree.specs.Tree.{CType, integer, Program}
+use Rattle.c_tree.specs.Tree.{integer, Program}
 use Rattle.c_tree.specs.Layout.{repeat}
 use Rattle.c_tree.specs.Operators.{value_of}
 use Rattle.c_tree.specs.Kinds.{HasType, static_objects}

@@ -1,32 +1,28 @@
 -- The types that the rules on expressions give are such as declarators make.
-use Rattle.std.proofs.Common.{◌≡◌, ℕ, zero, suc, ◌≤◌, Bool, false, ◌&&◌, ◌||◌, List, [], ◌∷◌, All, map, length-append, get_or, Option, Some, None, slice_get, unwrap_or, nat_eq, refl, ap, sym, subst, ◌∙◌, arith}
+use Rattle.std.proofs.Common.{◌≡◌, ℕ, zero, suc, ◌≤◌, Bool, ◌&&◌, List, [], ◌∷◌, All, map, length-append, get_or, Option, Some, None, slice_get, unwrap_or, refl, ap, sym, subst, ◌∙◌, arith}
 use Rattle.std.specs.Prelude.{option_map}
 use Rattle.std.proofs.lemmas.List.Elements.{All-head, All-tail}
 use Rattle.std.proofs.lemmas.Option.{slice_get-map}
 use Rattle.c_tree.specs.declared.value.IntType.{IntType}
-use Rattle.c_tree.specs.declared.value.UnOp.{UnOp}
 use Rattle.c_tree.specs.declared.value.BinOp.{BinOp}
-use Rattle.c_tree.specs.declared.value.BinOp.TheVariants as op
-use Rattle.c_lexer.specs.declared.punctuator.TheConstants.{ASTERISK, PLUS, MINUS, TILDE, ASSIGN}
 use Rattle.c_tree.specs.Tree.{CType, void, integer, pointer, array, struct, function}
 use Rattle.c_tree.specs.Layout.{Structs, cells, cells_of_all, flat, flat_all}
-use Rattle.c_tree.specs.Operands.{IsScalar, IsResult, promoted, common, OperatorKind, balanced, shift, ordering, equality}
-use Rattle.c_tree.specs.Operands.{kind_of as kind_of_operator}
-use Rattle.c_rules.specs.Names.{Name, number_among}
-use Rattle.c_rules.specs.Types.{is_void, is_integer, is_function, is_scalar, same_type}
+use Rattle.c_tree.specs.Operands.{IsScalar, IsResult}
+use Rattle.c_rules.specs.Names.{Name}
+use Rattle.c_rules.specs.Types.{is_integer}
 use Rattle.c_rules.specs.Scopes.{Env, Struct, incomplete, defined_struct, Member, struct_of, types_of_struct, type_of_member, layout_of}
-use Rattle.c_rules.specs.TypedExpression.{Form, a_value, a_place, behind, TypedExpression, is_place, is_null}
-use Rattle.c_rules.specs.Conversions.{Kind, an_integer, a_pointer, kind_of, complete, few_parts, loaded, valued_as, valued, cast_to, has_integer, converted_to, null_of, fits}
-use Rattle.c_rules.specs.PostfixExpressions.{Callee, callee_of_type, callee_through, all_fit, as_many_as, called, name_of_member, member_or_undeclared, member_of_struct, member_of_type, member_of}
-use Rattle.c_rules.specs.UnaryExpressions.{address_of_form, address_of_type, address, led_to, indirection, plus_of, operator_of, unary_of_value, cast_of, null_cast}
-use Rattle.c_rules.specs.BinaryExpressions.{sum_of, sum, minus_of, balanced_of, shift_of, ordered_of, Alike, alike_integers, alike_pointers, unlike, pointers_alike, alike_of, alike, equality_of, arithmetic_of, operation_of, operation, conjunction, disjunction, both_scalars, arms_of, choice}
-use Rattle.c_rules.specs.Assignments.{assignable, assignment, operator_of_assignment, moves, update_of, assignment_by, one_for, step, last_type, comma_of}
+use Rattle.c_rules.specs.TypedExpression.{Form, a_value, TypedExpression, is_place, is_null}
+use Rattle.c_rules.specs.Conversions.{kind_of, few_parts, loaded, valued_as, valued, cast_to, has_integer, converted_to, null_of}
+use Rattle.c_rules.specs.PostfixExpressions.{Callee, callee_of_type, callee_through, all_fit, as_many_as, called, member_of}
+use Rattle.c_rules.specs.UnaryExpressions.{address, indirection, unary_of_value, cast_of, null_cast}
+use Rattle.c_rules.specs.BinaryExpressions.{operation, choice}
+use Rattle.c_rules.specs.Assignments.{assignable, operator_of_assignment, assignment_by, one_for, step, last_type, comma_of}
 use Rattle.c_rules_laws.specs.MadeTypes.{NotArray, Made, AllMade, FewCells, IsSized}
 use Rattle.c_rules_laws.specs.SoundStructs.{AreSound}
 use Rattle.c_rules_laws.proofs.Holding.{Holds, holds_map, demand_holds, behind_demand, either}
 use Rattle.c_rules_laws.proofs.MadeTypes.{result_not_array, few_unless_array}
 pub use Rattle.c_rules_laws.proofs.Operators.{kind_pointer}
-use Rattle.c_rules_laws.proofs.Operators.{IsMember, a_member, IsAddress, of_place, of_leader, IsLedTo, led, OfOne, leads, promotes, operates, negates, ArePointers, as_given, left_null, right_null, OfTwo, adds_right, adds_left, takes, OfChoice, integers_chosen, pointers_chosen, voids_chosen, OfUpdate, assigns, member_agrees, address_agrees, indirection_agrees, unary_agrees, operation_agrees, choice_agrees, assignment_agrees, step_agrees, infix_agrees}
+use Rattle.c_rules_laws.proofs.Operators.{IsMember, a_member, IsAddress, of_place, of_leader, IsLedTo, led, OfOne, leads, ArePointers, left_null, OfTwo, adds_right, adds_left, takes, OfChoice, integers_chosen, pointers_chosen, voids_chosen, OfUpdate, assigns, member_agrees, address_agrees, indirection_agrees, unary_agrees, operation_agrees, choice_agrees, assignment_agrees, step_agrees, infix_agrees}
 use Rattle.c_syntax.specs.Tree.{Infix}
 use Rattle.c_rules.specs.Expressions.{infix_rule}
 

@@ -1,5 +1,5 @@
 -- The items of a unit that is fine give functions and static objects of the program that is made of it.
-use Rattle.std.proofs.Common.{◌≡◌, ℕ, ◌+◌, ◌≤◌, Bool, true, false, not, ◌&&◌, List, [], ◌∷◌, ◌++◌, map, length, append_assoc, Option, Some, None, slice_get, refl, ap, sym, subst, ◌∙◌, arith}
+use Rattle.std.proofs.Common.{◌≡◌, ℕ, ◌+◌, ◌≤◌, Bool, true, List, [], ◌∷◌, ◌++◌, map, length, append_assoc, Some, slice_get, refl, ap, sym, subst, ◌∙◌, arith}
 use Rattle.std.specs.List.{AllZip}
 use Rattle.c_tree.specs.Tree.{CType, Function, Static, Program}
 use Rattle.c_tree.specs.Layout.{flat}
@@ -9,22 +9,22 @@ use Rattle.c_tree.specs.Program.{IsFunction, IsStatic}
 use Rattle.c_tree.specs.Typed.{IsStaticOf}
 use Rattle.c_syntax.specs.Tree.{Ident, Storage, Spec, Declarator, MaybeInit, Parts, no_parts, more_parts, Decl, decl, Stmt, BlockItems, Item, enum_item, decl_item, function_item, Items, no_items, more_items}
 use Rattle.c_syntax.specs.Tree as syntax
-use Rattle.c_rules.specs.Checked.{Checked, fine, faulty, on}
-use Rattle.c_rules.specs.Scopes.{Env, declared_here, a_static, with_name, meaning_or_unknown, layout_of, Before}
+use Rattle.c_rules.specs.Checked.{fine}
+use Rattle.c_rules.specs.Scopes.{Env, declared_here, a_static, with_name, layout_of, Before}
 use Rattle.c_rules.specs.TypedExpression.{TypedExpression, Constant, known}
 use Rattle.c_rules.specs.PrimaryExpressions.{string_type, string_number}
-use Rattle.c_rules.specs.Declarators.{name_of, place_or}
+use Rattle.c_rules.specs.Declarators.{place_or}
 use Rattle.c_rules.specs.Expressions.{type_declared}
 use Rattle.c_rules.specs.Initialisers.{initialised_static, value_of_constant, value_of_cell, held_by}
-use Rattle.c_rules.specs.Objects.{Object, object_declared}
-use Rattle.c_rules.specs.Functions.{parameters_of, is_defined_by, declares_function, held_by_type, held_by_typed, function_declared, items_of_body, defined_as}
-use Rattle.c_rules.specs.Items.{meaning_of_global, Output, no_output, with_output, static_of, without_init, output_of_function, defines, global_declared, seen_of_global, behind_global, within_global, after_object, definition_of, global, declared_part, named_part, behind_declared, behind_named_part, behind_file_part, after_global, after_declared, after_file_part, file_parts, behind_file_parts, after_file_parts, after_file_decl, behind_defined, function_named, behind_function_named, item, behind_item, behind_by_form, after_item, items, behind_items, after_items}
+use Rattle.c_rules.specs.Objects.{Object}
+use Rattle.c_rules.specs.Functions.{parameters_of, is_defined_by, declares_function, held_by_type, items_of_body, defined_as}
+use Rattle.c_rules.specs.Items.{Output, with_output, static_of, output_of_function, behind_global, within_global, after_object, behind_defined, items, behind_items, after_items}
 use Rattle.c_rules.proofs.NothingMore.{nothing_more}
 use Rattle.c_meaning_laws.proofs.Places.{get_left, get_right}
-use Rattle.c_rules_laws.specs.Lexical.{IsMaybeInitLexical, ArePartsLexical, IsStmtLexical, AreItemsLexical, IsItemLexical, IsUnitLexical}
+use Rattle.c_rules_laws.specs.Lexical.{IsMaybeInitLexical, IsStmtLexical, AreItemsLexical, IsUnitLexical}
 use Rattle.c_rules_laws.specs.MadeTypes.{Made, IsSized}
 use Rattle.c_rules_laws.specs.RightScopes.{MeaningRight, IsRight, StringsIn}
-use Rattle.c_rules_laws.proofs.Holding.{held, first_fine, on_fine, Each, each_both, fine_same}
+use Rattle.c_rules_laws.proofs.Holding.{held, Each, each_both}
 use Rattle.c_rules_laws.proofs.SoundStructs.{same_flat}
 use Rattle.c_rules_laws.proofs.TypesOfTypedExpressions.{sized_few}
 use Rattle.c_rules_laws.proofs.TypesOfExpressions.{type_declared_made}
@@ -33,11 +33,11 @@ use Rattle.c_rules_laws.proofs.RightInitialisers.{IsKnownConstant, AllKnown, Typ
 use Rattle.c_rules_laws.proofs.RightDeclarations.{right_named}
 use Rattle.c_rules_laws.proofs.SitesOfStatements.{held_by_named_same}
 use Rattle.c_rules_laws.proofs.FileScopes.{IsFileRight, Follows, follows_on}
-use Rattle.c_rules_laws.proofs.FileItems.{Step, IsObjectNamed, object_named, part_step, parts_step, definition_step, form_step, tags_step, items_step, object_declared_same}
+use Rattle.c_rules_laws.proofs.FileItems.{Step, IsObjectNamed}
 use Rattle.c_rules_laws.proofs.UnitScopes.{IsTable, object_at, scope_right}
 use Rattle.c_rules_laws.proofs.UnitFunctions.{ParamsFit, type_fits, function_right}
 use Rattle.c_rules_laws.proofs.UnitShape.{just_declared}
-use Rattle.c_rules_laws.proofs.NamesOfItems.{Gives, starts, declares, an_object, a_definition, one_and_more, gives_step, items_give, output_same}
+use Rattle.c_rules_laws.proofs.NamesOfItems.{Gives, starts, declares, an_object, a_definition, one_and_more, gives_step, items_give}
 use Rattle.c_rules_laws.proofs.Spans.{gives_spans}
 use Rattle.c_rules.specs.Names.{Name}
 

@@ -9,7 +9,7 @@ use Rattle.c_tree.specs.Tree.{CType, Function, Program}
 use Rattle.c_tree.specs.Functions.{sys_types, null_types, type_of_defined, value_types, called_types, value_type, called_type}
 use Rattle.c_tree.specs.Typed.{IsStaticOf}
 use Rattle.c_rules.specs.Names.{Name, number_among, is_among, system_calls, null_calls, given_names, given_types}
-use Rattle.c_rules.specs.Scopes.{Env, Binding, Meaning, a_static, a_local, a_function, an_enumerator, unknown, lookup, layout_of}
+use Rattle.c_rules.specs.Scopes.{Env, Binding, Meaning, a_static, a_function, an_enumerator, lookup, layout_of}
 use Rattle.c_rules.specs.PrimaryExpressions.{object_number, given_number, number_or}
 use Rattle.c_rules_laws.specs.RightScopes.{MeaningRight, IsRight}
 use Rattle.c_rules_laws.specs.SoundStructs.{AreSound, Grows}

@@ -1,25 +1,20 @@
 -- What the items of a unit give, in the order of the unit: the functions and objects that it defines, with the types that their names have behind all items.
-use Rattle.std.proofs.Common.{◌≡◌, ℕ, zero, suc, Bool, true, false, not, ◌&&◌, if◌then◌else◌, cond, List, [], ◌∷◌, ◌++◌, length, Option, Some, None, slice_get, refl, ap, ap₂, sym, subst, ◌∙◌}
+use Rattle.std.proofs.Common.{◌≡◌, ℕ, zero, suc, Bool, true, false, cond, List, [], ◌∷◌, ◌++◌, length, Some, None, slice_get, refl, ap, ap₂, sym, subst, ◌∙◌}
 use Rattle.c_tree.specs.Tree.{CType, function, Function, Static}
 use Rattle.dm_base.specs.Name.{IsName}
 use Rattle.c_tree.specs.Tree as typed
-use Rattle.c_syntax.specs.Tree.{Ident, Storage, Spec, Declarator, MaybeInit, Parts, no_parts, more_parts, decl, Stmt, BlockItems, Item, enum_item, decl_item, function_item, Items, no_items, more_items}
-use Rattle.c_rules.specs.Checked.{Checked, fine, on, demand, met}
+use Rattle.c_syntax.specs.Tree.{Ident, Spec, Declarator, BlockItems}
+use Rattle.c_rules.specs.Checked.{Checked, fine, demand, met}
 use Rattle.c_rules.specs.Names.{Name, with_new}
 use Rattle.c_rules.specs.Scopes.{Env, Binding, Meaning, a_static, a_function, with_name, meaning_or_unknown, lookup, declared_here, Before}
-use Rattle.c_rules.specs.Declarators.{name_of, place_or}
-use Rattle.c_rules.specs.Expressions.{type_declared}
-use Rattle.c_rules.specs.Initialisers.{initialised_static}
+use Rattle.c_rules.specs.Declarators.{place_or}
 use Rattle.c_rules.specs.Objects.{Object}
-use Rattle.c_rules.specs.Variables.{name_or_empty}
-use Rattle.c_rules.specs.Functions.{function_meaning, declares_function, parameters_of, are_named, variables_of, function_laid, body_of, is_defined_by, function_declared, items_of_body, defined_as}
-use Rattle.c_rules.specs.Items.{Output, no_output, with_output, static_of, without_init, output_of_function, defines, global_declared, meaning_of_global, behind_global, within_global, after_object, definition_of, global, declared_part, named_part, behind_declared, behind_named_part, behind_file_part, after_file_part, file_parts, behind_file_parts, behind_defined, function_named, behind_function_named, item, behind_item, behind_by_form, after_item, items, behind_items}
-use Rattle.c_rules.specs.Units.{functions_of_item, functions_of, objects_of_parts, objects_of_item, objects_of}
-use Rattle.c_rules_laws.specs.Lexical.{IsNamed, IsItemLexical, IsUnitLexical}
-use Rattle.c_rules_laws.proofs.Holding.{held, first_fine, on_fine, demand_fine}
+use Rattle.c_rules.specs.Functions.{parameters_of, are_named, variables_of, function_laid, body_of, is_defined_by, function_declared, items_of_body, defined_as}
+use Rattle.c_rules.specs.Items.{Output, no_output, with_output, static_of, output_of_function, behind_global, behind_defined}
+use Rattle.c_rules_laws.proofs.Holding.{first_fine, demand_fine}
 use Rattle.c_rules_laws.proofs.Definitions.{definition_fine}
-use Rattle.c_rules_laws.proofs.FileScopes.{IsFileRight, Agrees, Follows, follows_on}
-use Rattle.c_rules_laws.proofs.FileItems.{form_step, function_meant, IsFunctionNamed, items_step, part_step, parts_step, tags_step}
+use Rattle.c_rules_laws.proofs.FileScopes.{Agrees, Follows, follows_on}
+use Rattle.c_rules_laws.proofs.FileItems.{IsFunctionNamed}
 use Rattle.c_rules_laws.proofs.DistinctNames.{itself}
 pub use Rattle.c_rules_laws.proofs.NamesOfItems.{output_same}
 use Rattle.c_rules_laws.proofs.NamesOfItems.{defined_true, Gives, starts, declares, an_object, a_definition, one_and_more, gives_step}
