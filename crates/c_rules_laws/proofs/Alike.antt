@@ -52,6 +52,10 @@ both_alike {A} {B} {C} {p} {p'} q q' k l g h t = record {
   back = both_leads p' p q' q l k g.back (λ a e. (h a (fine_here a g e)).back) (λ a b. (t a b).back);
 }
 
+-- two parts of which one thing is made
+pub joined_alike : {A B C : Type 0} {p p' : Checked A} (q q' : Checked B) (f : A → B → C) → Alike A p p' → ((a : A) → p ≡ fine a → Alike B q q') → Alike C (both p q (λ a b. fine (f a b))) (both p' q' (λ a b. fine (f a b)))
+joined_alike {A} {B} {C} {p} {p'} q q' f g h = both_alike q q' (λ a b. fine (f a b)) (λ a b. fine (f a b)) g h (λ a b. alike (fine (f a b)))
+
 pub three_alike : {A B C D : Type 0} {p p' : Checked A} (q q' : Checked B) (r r' : Checked C) (k l : A → B → C → Checked D) → Alike A p p' → ((a : A) → p ≡ fine a → Alike B q q') → ((a : A) (b : B) → p ≡ fine a → q ≡ fine b → Alike C r r') → ((a : A) (b : B) (c : C) → Alike D (k a b c) (l a b c)) → Alike D (all_three p q r k) (all_three p' q' r' l)
 three_alike {A} {B} {C} {D} {p} {p'} q q' r r' k l g h i t = record {
   forth = all_three_lead p p' q q' r r' k l g.forth (λ a e. (h a e).forth) (λ a b e f. (i a b e f).forth) (λ a b c. (t a b c).forth);

@@ -15,7 +15,7 @@ use Rattle.c_rules.specs.Variables.{Next, number_in, calls_of_decl, calls_of_fir
 use Rattle.c_rules.specs.Blocks.{within_local, behind_local, behind_named, behind_part, past_part, behind_parts, behind_decl, behind_first, held_by_object, held_by_named, held_by_part, held_by_parts, held_by_decl, held_by_first, after_part, after_decl, after_first, StatementTree, bare, one_more, alone, laid_variable, local_of, local, local_named, local_part, local_parts, local_decl, is_given}
 use Rattle.c_rules.specs.Statements.{first_of}
 use Rattle.c_rules_laws.proofs.Leads.{first_fine, on_fine, alone_fine}
-use Rattle.c_rules_laws.proofs.Alike.{Alike, alike, on_alike, gives_alike, both_alike, fault_alike, alone_alike}
+use Rattle.c_rules_laws.proofs.Alike.{Alike, alike, on_alike, gives_alike, joined_alike, fault_alike, alone_alike}
 use Rattle.c_rules_laws.proofs.Declared.{unplaced_name, name_same, new_alike, meaning_same}
 use Rattle.c_rules_laws.proofs.Expressions.{value_alike, strings_same, past_same}
 use Rattle.c_rules_laws.proofs.Initialisers.{maybe_init_calls_same, held_by_same, local_init_alike, declared_object_alike}
@@ -46,12 +46,11 @@ local_of_alike env b c h next x m o = gives_alike (laid_variable x.name (number_
 
 local_alike : (env : Env) (b c : Before) → c ≡ b → (next : Next) (x : Ident) (m : MaybeInit) (r s : Checked Object) → Alike Object r s → Alike (StatementTree typed.Stmt) (local env b next x m r) (local env c next (unplaced_ident x) (unplaced_maybe_init m) s)
 local_alike env b c h next x m r s g =
-    both_alike (on r (local_of (within_local env next x r) b next x m)) (on s (local_of (within_local env next (unplaced_ident x) s) c next (unplaced_ident x) (unplaced_maybe_init m)))
-    (λ _ p. fine p) (λ _ p. fine p) (new_alike env x)
+    joined_alike (on r (local_of (within_local env next x r) b next x m)) (on s (local_of (within_local env next (unplaced_ident x) s) c next (unplaced_ident x) (unplaced_maybe_init m)))
+    (λ _ p. p) (new_alike env x)
     (λ a e. on_alike (local_of (within_local env next x r) b next x m) (local_of (within_local env next (unplaced_ident x) s) c next (unplaced_ident x) (unplaced_maybe_init m)) g
     (λ o f. subst (λ i. Alike (StatementTree typed.Stmt) (local_of (within_local env next x r) b next x m o) (local_of i c next (unplaced_ident x) (unplaced_maybe_init m) o)) (within_same env next x r s o a g f e)
     (local_of_alike (within_local env next x r) b c h next x m o)))
-    (λ _ p. alike (fine p))
 
 named_alike : (env : Env) (b c : Before) → c ≡ b → (next : Next) (at to : ℕ) (s : Spec) (d : Declarator) (m : MaybeInit) (n : Option Ident) → Alike (StatementTree typed.Stmt) (local_named env b next at s d m n) (local_named env c next to (unplaced_spec s) (unplaced_declarator d) (unplaced_maybe_init m) (unplaced_name n))
 named_alike env b c h next at to s d m None = fault_alike C3 (place_or at d) (place_or to (unplaced_declarator d))
@@ -106,11 +105,10 @@ parts_alike env b c h n k g at to s no_parts = alike (fine (bare typed.no_stmts)
 parts_alike env b c h n k g at to s (more_parts d m ps) =
     let t : Spec = unplaced_spec s in let e : Declarator = unplaced_declarator d in let i : MaybeInit = unplaced_maybe_init m in
     let rest : Checked (StatementTree typed.Stmts) = local_parts (behind_part env n at s d m) (after_part env b at s d m) (past_part n d) at s ps in
-    both_alike rest (local_parts (behind_part env k to t e i) (after_part env c to t e i) (past_part k e) to t (unplaced_parts ps)) (λ p q. fine (one_more p q)) (λ p q. fine (one_more p q))
+    joined_alike rest (local_parts (behind_part env k to t e i) (after_part env c to t e i) (past_part k e) to t (unplaced_parts ps)) (λ p q. one_more p q)
     (part_alike env b c h n k g at to s d m)
     (λ p f. subst (λ y. Alike (StatementTree typed.Stmts) rest (local_parts y (after_part env c to t e i) (past_part k e) to t (unplaced_parts ps))) (behind_part_same env b n k g at to s d m p f)
     (parts_alike (behind_part env n at s d m) (after_part env b at s d m) (after_part env c to t e i) (after_part_same env b c h at to s d m) (past_part n d) (past_part k e) (past_name_same n k d g) at to s ps))
-    (λ p q. alike (fine (one_more p q)))
 
 -- what stands behind declarators that are fine, and what they hold
 behind_parts_same : (env : Env) (b : Before) (n k : Next) → k ≡ n → (at to : ℕ) (s : Spec) (ps : Parts) (p : StatementTree typed.Stmts) → local_parts env b n at s ps ≡ fine p

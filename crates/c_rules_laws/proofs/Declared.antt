@@ -18,7 +18,7 @@ use Rattle.c_rules.specs.TypedExpression.{TypedExpression, Constant, known, inte
 use Rattle.c_rules.specs.Conversions.{few_parts, complete}
 use Rattle.c_rules.specs.Declarators.{name_of, type_of_spec, within_parts, pointer_to, array_of, function_of, parameter_of, defined_value, constant_value, positive, array_size, free_name, new_name, variable_meaning, with_name_demands, behind_parameter}
 use Rattle.c_rules_laws.proofs.Leads.{first_fine}
-use Rattle.c_rules_laws.proofs.Alike.{Alike, alike, fine_there, on_alike, both_alike, demand_alike, and_alike, fault_alike}
+use Rattle.c_rules_laws.proofs.Alike.{Alike, alike, fine_there, on_alike, joined_alike, demand_alike, and_alike, fault_alike}
 use Rattle.c_rules_laws.proofs.Operators.{complete_alike}
 
 -- ## Types
@@ -92,12 +92,12 @@ name_same d = refl
 
 variable_alike : (env : Env) (k : ℕ) (x : Ident) (r s : Checked CType) → Alike CType r s → Alike Meaning (variable_meaning env k x r) (variable_meaning env k (unplaced_ident x) s)
 variable_alike env k x r s h =
-    both_alike (new_name env x) (new_name env (unplaced_ident x)) (λ t _. fine (a_local k t t)) (λ t _. fine (a_local k t t)) h (λ _ _. new_alike env x) (λ t _. alike (fine (a_local k t t)))
+    joined_alike (new_name env x) (new_name env (unplaced_ident x)) (λ t _. a_local k t t) h (λ _ _. new_alike env x)
 
 named_alike : (env : Env) (n : Option Ident) (r s : Checked CType) → Alike CType r s → Alike CType (with_name_demands env n r) (with_name_demands env (unplaced_name n) s)
 named_alike env None r s h = h
 named_alike env (Some x) r s h =
-    both_alike (new_name env x) (new_name env (unplaced_ident x)) (λ t _. fine t) (λ t _. fine t) h (λ _ _. new_alike env x) (λ t _. alike (fine t))
+    joined_alike (new_name env x) (new_name env (unplaced_ident x)) (λ t _. t) h (λ _ _. new_alike env x)
 
 pub with_name_alike : (env : Env) (d : Declarator) (r s : Checked CType) → Alike CType r s → Alike CType (with_name_demands env (name_of d) r) (with_name_demands env (name_of (unplaced_declarator d)) s)
 with_name_alike env d r s h = subst (λ n. Alike CType (with_name_demands env (name_of d) r) (with_name_demands env n s)) (sym (name_same d)) (named_alike env (name_of d) r s h)

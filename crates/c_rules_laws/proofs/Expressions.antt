@@ -20,7 +20,7 @@ use Rattle.c_rules.specs.BinaryExpressions.{sum, choice}
 use Rattle.c_rules.specs.Assignments.{assignable, assignment_by, step, comma_of}
 use Rattle.c_rules.specs.Declarators.{name_of, place_or, place_of_type, is_void_spec, is_bare_pointer, is_void_pointer, array_of, function_of, parameter_of, array_size, behind_parameter}
 use Rattle.c_rules.specs.Expressions.{value_at, place_at, callee_meant, callee_bound, callee, access, after_operand, before_operand, unary_rule, infix_rule, cast_rule, tree, trees, type_named, declared, size_in, parameters, value, folded_value, type_declared, type_of_parameter}
-use Rattle.c_rules_laws.proofs.Alike.{Alike, alike, on_alike, gives_alike, both_alike, three_alike, by_test}
+use Rattle.c_rules_laws.proofs.Alike.{Alike, alike, on_alike, gives_alike, both_alike, joined_alike, three_alike, by_test}
 use Rattle.c_rules_laws.proofs.Operators.{named_alike, string_alike, valued_alike, site_alike, callee_by_name_alike, callee_by_value_alike, called_alike, member_agrees, address_agrees, indirection_agrees, unary_agrees, size_alike, cast_alike, null_cast_alike, operation_agrees, infix_agrees, choice_agrees, assignable_alike, assignment_agrees, step_agrees}
 use Rattle.c_rules_laws.proofs.Declared.{spec_alike, pointer_alike, array_alike, function_alike, parameter_alike, array_size_alike, with_name_alike, behind_parameter_same}
 
@@ -180,8 +180,8 @@ mutual
   pub trees_alike : (env : Env) (b c : Before) → c ≡ b → (es : Exprs) → Alike (List TypedExpression) (trees env b es) (trees env c (unplaced_exprs es))
   trees_alike env b c h no_exprs = alike (fine [])
   trees_alike env b c h (more_exprs e es) =
-      both_alike (trees env (after b e) es) (trees env (after c (unplaced e)) (unplaced_exprs es)) (λ g gs. fine (g ∷ gs)) (λ g gs. fine (g ∷ gs)) (value_of env b c e (tree_alike env b c h e))
-      (λ _ _. trees_alike env (after b e) (after c (unplaced e)) (after_same b c e h) es) (λ g gs. alike (fine (g ∷ gs)))
+      joined_alike (trees env (after b e) es) (trees env (after c (unplaced e)) (unplaced_exprs es)) (λ g gs. g ∷ gs) (value_of env b c e (tree_alike env b c h e))
+      (λ _ _. trees_alike env (after b e) (after c (unplaced e)) (after_same b c e h) es)
 
   pub type_alike : (env : Env) (t : TypeName) → Alike CType (type_named env t) (type_named env (unplaced_type t))
   type_alike env (type_name at s d) = on_alike (declared env d) (declared env (unplaced_declarator d)) (spec_alike env at 0 s) (λ t _. declared_alike env d t)
@@ -211,11 +211,10 @@ mutual
       on_alike (parameter_of (place_or at d)) (parameter_of (place_or 0 (unplaced_declarator d)))
       (on_alike (declared env d) (declared env (unplaced_declarator d)) (spec_alike env at 0 s) (λ t _. declared_alike env d t))
       (λ t _. parameter_alike (place_or at d) (place_or 0 (unplaced_declarator d)) t) in
-      both_alike (parameters (behind_parameter env k (name_of d) r) k ps) (parameters (behind_parameter env k (name_of (unplaced_declarator d)) q) k (unplaced_params ps))
-      (λ t ts. fine (more_types t ts)) (λ t ts. fine (more_types t ts)) (with_name_alike env d r q h)
+      joined_alike (parameters (behind_parameter env k (name_of d) r) k ps) (parameters (behind_parameter env k (name_of (unplaced_declarator d)) q) k (unplaced_params ps))
+      (λ t ts. more_types t ts) (with_name_alike env d r q h)
       (λ t e. subst (λ f. Alike CTypes (parameters (behind_parameter env k (name_of d) r) k ps) (parameters f k (unplaced_params ps))) (behind_parameter_same env k d r q t h e)
       (parameters_alike (behind_parameter env k (name_of d) r) k ps))
-      (λ t ts. alike (fine (more_types t ts)))
 
 pub value_alike : (env : Env) (b c : Before) → c ≡ b → (e : Expr) → Alike TypedExpression (value env b e) (value env c (unplaced e))
 value_alike env b c h e = value_of env b c e (tree_alike env b c h e)

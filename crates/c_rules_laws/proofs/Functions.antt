@@ -17,7 +17,7 @@ use Rattle.c_rules.specs.Blocks.{StatementTree, held_by_block}
 use Rattle.c_rules.specs.Statements.{Around, items_of_block}
 use Rattle.c_rules.specs.Functions.{declares_function, parameters_of, is_named, are_named, count_params, with_parameter, with_parameters, is_as_given, may_follow_function, is_defined_by, is_few, function_meaning, behind_function, function_declared, items_of_body, variables_of, function_laid, body_env, body_numbers, body_of, held_by_type, few_variables, defined_as}
 use Rattle.c_rules_laws.proofs.Leads.{first_fine}
-use Rattle.c_rules_laws.proofs.Alike.{Alike, alike, on_alike, both_alike, demand_alike, and_alike, fault_alike, parts_first_alike}
+use Rattle.c_rules_laws.proofs.Alike.{Alike, on_alike, gives_alike, both_alike, demand_alike, and_alike, fault_alike, parts_first_alike}
 use Rattle.c_rules_laws.proofs.Definitions.{laid_body, definition_fine}
 use Rattle.c_rules_laws.proofs.Declared.{unplaced_name, name_same, meaning_same}
 use Rattle.c_rules_laws.proofs.Expressions.{type_declared_alike}
@@ -117,11 +117,10 @@ held_same env b place d x is t f e = refl
 
 function_meaning_alike : (env : Env) (defined : Bool) (x : Ident) (t : CType) → Alike Meaning (function_meaning env defined x t) (function_meaning env defined (unplaced_ident x) t)
 function_meaning_alike env defined x t =
-    on_alike (λ _. fine (a_function t (is_defined_by defined (declared_here env x.name)))) (λ _. fine (a_function t (is_defined_by defined (declared_here env x.name))))
+    gives_alike (λ _. a_function t (is_defined_by defined (declared_here env x.name)))
     (and_alike (demand_alike (may_be_declared env.whole.mode x.name) C12 x.at 0 met)
     (and_alike (demand_alike (is_as_given env defined x.name t) C11 x.at 0 met)
     (and_alike (demand_alike (may_follow_function defined t (declared_here env x.name)) C2 x.at 0 met) (demand_alike (is_few env x.name) C13 x.at 0 met))))
-    (λ _ _. alike (fine (a_function t (is_defined_by defined (declared_here env x.name)))))
 
 pub function_declared_alike : (env : Env) (defined : Bool) (at to : ℕ) (s : Spec) (d : Declarator) (x : Ident) → Alike Meaning (function_declared env defined at s d x) (function_declared env defined to (unplaced_spec s) (unplaced_declarator d) (unplaced_ident x))
 function_declared_alike env defined at to s d x =

@@ -16,7 +16,7 @@ use Rattle.c_rules.specs.Declarators.{place_or}
 use Rattle.c_rules.specs.Expressions.{value}
 use Rattle.c_rules.specs.Initialisers.{Slots, copies, each, slots, capacity, takes_list, count_inits, text_of, chars, zeros, defined_cell, cell_of, scalar_cell, array_cells, cells_of_one, cells_of_list, is_char_array, held_by_one, held, held_in_turn, calls_of_init, calls_of_inits, after_init, initialised, in_turn, held_by, calls_of_maybe_init, initialised_local, initialised_static, text_fits}
 use Rattle.c_rules.specs.Objects.{Object, sized_by_one, sized_by_init, sized_by, with_size, of_known_size, object_of, object_declared}
-use Rattle.c_rules_laws.proofs.Alike.{Alike, alike, on_alike, both_alike, demand_alike, fault_alike}
+use Rattle.c_rules_laws.proofs.Alike.{Alike, alike, on_alike, gives_alike, joined_alike, demand_alike, fault_alike}
 use Rattle.c_rules_laws.proofs.Operators.{assigned_alike, complete_alike, few_cells_alike}
 use Rattle.c_rules_laws.proofs.Expressions.{value_alike, calls_same, strings_same, past_same, type_declared_alike}
 
@@ -110,11 +110,11 @@ mutual
   pub in_turn_alike : (env : Env) (b c : Before) → c ≡ b → (k : Bool) (s : Slots) (is : Inits) → Alike (List TypedExpression) (in_turn env b k s is) (in_turn env c k s (unplaced_inits is))
   in_turn_alike env b c h k s no_inits = alike (fine (zeros (layout_of env) s))
   in_turn_alike env b c h k (copies (suc n) t) (more_inits i is) =
-      both_alike (in_turn env (after_init env b t i) k (copies n t) is) (in_turn env (after_init env c t (unplaced_init i)) k (copies n t) (unplaced_inits is)) (λ gs hs. fine (gs ++ hs)) (λ gs hs. fine (gs ++ hs))
-      (initialised_alike env b c h k t i) (λ _ _. in_turn_alike env (after_init env b t i) (after_init env c t (unplaced_init i)) (after_init_same env b c t i h) k (copies n t) is) (λ gs hs. alike (fine (gs ++ hs)))
+      joined_alike (in_turn env (after_init env b t i) k (copies n t) is) (in_turn env (after_init env c t (unplaced_init i)) k (copies n t) (unplaced_inits is)) (λ gs hs. gs ++ hs)
+      (initialised_alike env b c h k t i) (λ _ _. in_turn_alike env (after_init env b t i) (after_init env c t (unplaced_init i)) (after_init_same env b c t i h) k (copies n t) is)
   in_turn_alike env b c h k (each (t ∷ ts)) (more_inits i is) =
-      both_alike (in_turn env (after_init env b t i) k (each ts) is) (in_turn env (after_init env c t (unplaced_init i)) k (each ts) (unplaced_inits is)) (λ gs hs. fine (gs ++ hs)) (λ gs hs. fine (gs ++ hs))
-      (initialised_alike env b c h k t i) (λ _ _. in_turn_alike env (after_init env b t i) (after_init env c t (unplaced_init i)) (after_init_same env b c t i h) k (each ts) is) (λ gs hs. alike (fine (gs ++ hs)))
+      joined_alike (in_turn env (after_init env b t i) k (each ts) is) (in_turn env (after_init env c t (unplaced_init i)) k (each ts) (unplaced_inits is)) (λ gs hs. gs ++ hs)
+      (initialised_alike env b c h k t i) (λ _ _. in_turn_alike env (after_init env b t i) (after_init env c t (unplaced_init i)) (after_init_same env b c t i h) k (each ts) is)
   in_turn_alike env b c h k s is = alike (fine [])
 
 pub local_init_alike : (env : Env) (b c : Before) → c ≡ b → (t : CType) (m : MaybeInit) → Alike (List TypedExpression) (initialised_local env b t m) (initialised_local env c t (unplaced_maybe_init m))
@@ -155,8 +155,7 @@ known_size_alike env at to here yonder t =
 object_alike : (env : Env) (at to here yonder : ℕ) (m : MaybeInit) (t : CType) → Alike Object (object_of env at here m t) (object_of env to yonder (unplaced_maybe_init m) t)
 object_alike env at to here yonder m t =
     on_alike (λ u. on (of_known_size env at here u) (λ w. fine (record { seen = t; whole = w }))) (λ u. on (of_known_size env to yonder u) (λ w. fine (record { seen = t; whole = w })))
-    (with_size_alike here yonder m t)
-    (λ u _. on_alike (λ w. fine (record { seen = t; whole = w })) (λ w. fine (record { seen = t; whole = w })) (known_size_alike env at to here yonder u) (λ w _. alike (fine (record { seen = t; whole = w }))))
+    (with_size_alike here yonder m t) (λ u _. gives_alike (λ w. record { seen = t; whole = w }) (known_size_alike env at to here yonder u))
 
 pub declared_object_alike : (env : Env) (at to : ℕ) (s : Spec) (d : Declarator) (x : Ident) (m : MaybeInit) → Alike Object (object_declared env at s d x m) (object_declared env to (unplaced_spec s) (unplaced_declarator d) (unplaced_ident x) (unplaced_maybe_init m))
 declared_object_alike env at to s d x m =

@@ -26,7 +26,7 @@ use Rattle.c_rules.specs.Functions.{declares_function, held_by_typed, is_defined
 use Rattle.c_rules.specs.Items.{Output, no_output, with_output, free_tag, member_typed, new_member, member_named, member_declared, with_option, names_behind, members_declared, members, struct_laid, is_incomplete, new_struct, struct_definition, struct_or_unknown, tag_declaration, int_value, enumerator_value, one_more_than, enumerator_meaning, behind_enumerator, enumerators, behind_enumerators, new_enum, behind_enum_tag, defines, may_follow_object, object_name, few_static, global_object, global_declared, behind_global, within_global, static_of, after_object, definition_of, global, without_init, prototype, declared_part, named_part, behind_declared, behind_named_part, behind_file_part, after_global, after_declared, after_file_part, file_parts, behind_file_parts, after_file_parts, output_of_function, behind_defined, function_named, behind_function_named, after_function, item, behind_by_form, behind_item, after_item, items, behind_items, after_items}
 use Rattle.c_rules.proofs.ModeItems.{global_fine}
 use Rattle.c_rules_laws.proofs.Leads.{first_fine, on_fine}
-use Rattle.c_rules_laws.proofs.Alike.{Alike, alike, fine_there, on_alike, gives_alike, both_alike, demand_alike, and_alike, fault_alike}
+use Rattle.c_rules_laws.proofs.Alike.{Alike, alike, fine_there, on_alike, gives_alike, joined_alike, demand_alike, and_alike, fault_alike}
 use Rattle.c_rules_laws.proofs.Operators.{complete_alike}
 use Rattle.c_rules_laws.proofs.Declared.{unplaced_name, name_same, constant_alike, new_alike, meaning_same}
 use Rattle.c_rules_laws.proofs.Expressions.{type_declared_alike, folded_alike, past_same}
@@ -50,11 +50,10 @@ new_member_alike env xs x = and_alike (demand_alike (may_be_declared env.whole.m
 member_named_alike : (env : Env) (xs : List Name) (at to : ℕ) (s : Spec) (d : Declarator) (n : Option Ident) → Alike Member (member_named env xs at s d n) (member_named env xs to (unplaced_spec s) (unplaced_declarator d) (unplaced_name n))
 member_named_alike env xs at to s d None = fault_alike C3 (place_or at d) (place_or to (unplaced_declarator d))
 member_named_alike env xs at to s d (Some x) =
-    both_alike (on (type_declared env at s d) (member_typed env (place_or at d) x.at)) (on (type_declared env to (unplaced_spec s) (unplaced_declarator d)) (member_typed env (place_or to (unplaced_declarator d)) 0))
-    (λ _ t. fine (record { name = x.name; ctype = t })) (λ _ t. fine (record { name = x.name; ctype = t })) (new_member_alike env xs x)
+    joined_alike (on (type_declared env at s d) (member_typed env (place_or at d) x.at)) (on (type_declared env to (unplaced_spec s) (unplaced_declarator d)) (member_typed env (place_or to (unplaced_declarator d)) 0))
+    (λ _ t. record { name = x.name; ctype = t }) (new_member_alike env xs x)
     (λ _ _. on_alike (member_typed env (place_or at d) x.at) (member_typed env (place_or to (unplaced_declarator d)) 0) (type_declared_alike env at to s d)
     (λ t _. member_typed_alike env (place_or at d) (place_or to (unplaced_declarator d)) x.at 0 t))
-    (λ _ t. alike (fine (record { name = x.name; ctype = t })))
 
 member_alike : (env : Env) (xs : List Name) (at to : ℕ) (s : Spec) (d : Declarator) → Alike Member (member_declared env xs at s d) (member_declared env xs to (unplaced_spec s) (unplaced_declarator d))
 member_alike env xs at to s d =
@@ -74,24 +73,20 @@ names_behind_same xs (more_declarators d ds) = ap (λ ys. names_behind ys (unpla
 declarators_alike : (env : Env) (xs : List Name) (at to : ℕ) (s : Spec) (ds : Declarators) → Alike (List Member) (members_declared env xs at s ds) (members_declared env xs to (unplaced_spec s) (unplaced_declarators ds))
 declarators_alike env xs at to s no_declarators = alike (fine [])
 declarators_alike env xs at to s (more_declarators d ds) =
-    both_alike (members_declared env (with_option (name_of d) xs) at s ds) (members_declared env (with_option (name_of (unplaced_declarator d)) xs) to (unplaced_spec s) (unplaced_declarators ds)) (λ m ms. fine (m ∷ ms)) (λ m ms. fine (m ∷ ms))
+    joined_alike (members_declared env (with_option (name_of d) xs) at s ds) (members_declared env (with_option (name_of (unplaced_declarator d)) xs) to (unplaced_spec s) (unplaced_declarators ds)) (λ m ms. m ∷ ms)
     (member_alike env xs at to s d)
     (λ _ _. subst (λ ys. Alike (List Member) (members_declared env (with_option (name_of d) xs) at s ds) (members_declared env ys to (unplaced_spec s) (unplaced_declarators ds))) (sym (behind_name_same d xs)) (declarators_alike env (with_option (name_of d) xs) at to s ds))
-    (λ m ms. alike (fine (m ∷ ms)))
 
 members_alike : (env : Env) (xs : List Name) (ms : Members) → Alike (List Member) (members env xs ms) (members env xs (unplaced_members ms))
 members_alike env xs no_members = alike (fine [])
 members_alike env xs (more_members at s ds rest) =
-    both_alike (members env (names_behind xs ds) rest) (members env (names_behind xs (unplaced_declarators ds)) (unplaced_members rest)) (λ ms others. fine (ms ++ others)) (λ ms others. fine (ms ++ others))
+    joined_alike (members env (names_behind xs ds) rest) (members env (names_behind xs (unplaced_declarators ds)) (unplaced_members rest)) (λ ms others. ms ++ others)
     (declarators_alike env xs at 0 s ds)
     (λ _ _. subst (λ ys. Alike (List Member) (members env (names_behind xs ds) rest) (members env ys (unplaced_members rest))) (sym (names_behind_same xs ds)) (members_alike env (names_behind xs ds) rest))
-    (λ ms others. alike (fine (ms ++ others)))
 
 struct_laid_alike : (env : Env) (x : Ident) (ms : List Member) → Alike Struct (struct_laid env x ms) (struct_laid env (unplaced_ident x) ms)
 struct_laid_alike env x ms =
-    on_alike (λ _. fine (defined_struct ms)) (λ _. fine (defined_struct ms))
-    (and_alike (demand_alike (nat_le (length ms) most_members) C13 x.at 0 met) (demand_alike (nat_le (cells_of_all (layout_of env) (map type_of_member ms)) most_cells) C13 x.at 0 met))
-    (λ _ _. alike (fine (defined_struct ms)))
+    gives_alike (λ _. defined_struct ms) (and_alike (demand_alike (nat_le (length ms) most_members) C13 x.at 0 met) (demand_alike (nat_le (cells_of_all (layout_of env) (map type_of_member ms)) most_cells) C13 x.at 0 met))
 
 new_struct_alike : (env : Env) (x : Ident) → Alike Met (new_struct env x) (new_struct env (unplaced_ident x))
 new_struct_alike env x =
@@ -99,8 +94,8 @@ new_struct_alike env x =
 
 struct_alike : (env : Env) (x : Ident) (ms : Members) → Alike Struct (struct_definition env x ms) (struct_definition env (unplaced_ident x) (unplaced_members ms))
 struct_alike env x ms =
-    both_alike (on (members env [] ms) (struct_laid env x)) (on (members env [] (unplaced_members ms)) (struct_laid env (unplaced_ident x))) (λ _ s. fine s) (λ _ s. fine s) (new_struct_alike env x)
-    (λ _ _. on_alike (struct_laid env x) (struct_laid env (unplaced_ident x)) (members_alike env [] ms) (λ ms _. struct_laid_alike env x ms)) (λ _ s. alike (fine s))
+    joined_alike (on (members env [] ms) (struct_laid env x)) (on (members env [] (unplaced_members ms)) (struct_laid env (unplaced_ident x))) (λ _ s. s) (new_struct_alike env x)
+    (λ _ _. on_alike (struct_laid env x) (struct_laid env (unplaced_ident x)) (members_alike env [] ms) (λ ms _. struct_laid_alike env x ms))
 
 struct_same : (r s : Checked Struct) (a : Struct) → Alike Struct r s → r ≡ fine a → struct_or_unknown r ≡ struct_or_unknown s
 struct_same r s a h e = ap struct_or_unknown e ∙ sym (ap struct_or_unknown (fine_there a h e))
@@ -127,7 +122,7 @@ one_more_alike (faulty f fs) (fine z) h = let no : faulty f fs ≡ fine z = h.ba
 one_more_alike (faulty f fs) (faulty g gs) h = record { forth = tt; back = tt }
 
 enumerator_alike : (env : Env) (x : Ident) (r s : Checked ℤ) → Alike ℤ r s → Alike Meaning (enumerator_meaning env x r) (enumerator_meaning env (unplaced_ident x) s)
-enumerator_alike env x r s h = both_alike r s (λ _ z. fine (an_enumerator z)) (λ _ z. fine (an_enumerator z)) (new_alike env x) (λ _ _. h) (λ _ z. alike (fine (an_enumerator z)))
+enumerator_alike env x r s h = joined_alike r s (λ _ z. an_enumerator z) (new_alike env x) (λ _ _. h)
 
 behind_enumerator_same : (env : Env) (x : Ident) (r s : Checked ℤ) (m : Meaning) → Alike ℤ r s → enumerator_meaning env x r ≡ fine m → behind_enumerator env x r ≡ behind_enumerator env (unplaced_ident x) s
 behind_enumerator_same env x r s m h e = ap (with_name env x.name) (meaning_same (enumerator_meaning env x r) (enumerator_meaning env (unplaced_ident x) s) m (enumerator_alike env x r s h) e)
@@ -138,11 +133,10 @@ enumerators_alike env p q h (more_enumerators x m es) =
     let r : Checked ℤ = enumerator_value env p x m in
     let s : Checked ℤ = enumerator_value env q (unplaced_ident x) (unplaced_maybe m) in
     let k : Alike ℤ r s = enumerator_value_alike env p q h x m in
-    both_alike (enumerators (behind_enumerator env x r) (one_more_than r) es) (enumerators (behind_enumerator env (unplaced_ident x) s) (one_more_than s) (unplaced_enumerators es)) (λ _ _. fine met) (λ _ _. fine met)
+    joined_alike (enumerators (behind_enumerator env x r) (one_more_than r) es) (enumerators (behind_enumerator env (unplaced_ident x) s) (one_more_than s) (unplaced_enumerators es)) (λ _ _. met)
     (enumerator_alike env x r s k)
     (λ a e. subst (λ y. Alike Met (enumerators (behind_enumerator env x r) (one_more_than r) es) (enumerators y (one_more_than s) (unplaced_enumerators es))) (behind_enumerator_same env x r s a k e)
     (enumerators_alike (behind_enumerator env x r) (one_more_than r) (one_more_than s) (one_more_alike r s k) es))
-    (λ _ _. alike (fine met))
 
 behind_enumerators_same : (env : Env) (p q : Checked ℤ) → Alike ℤ p q → (es : Enumerators) (a : Met) → enumerators env p es ≡ fine a → behind_enumerators env p es ≡ behind_enumerators env q (unplaced_enumerators es)
 behind_enumerators_same env p q h no_enumerators a e = refl
@@ -207,7 +201,7 @@ without_init_alike (an_init (one at e)) = fault_alike C14 at 0
 without_init_alike (an_init (list at is)) = fault_alike C14 at 0
 
 prototype_alike : (m : MaybeInit) (r s : Checked Meaning) → Alike Meaning r s → Alike Output (prototype m r) (prototype (unplaced_maybe_init m) s)
-prototype_alike m r s h = both_alike (without_init m) (without_init (unplaced_maybe_init m)) (λ _ _. fine no_output) (λ _ _. fine no_output) h (λ _ _. without_init_alike m) (λ _ _. alike (fine no_output))
+prototype_alike m r s h = joined_alike (without_init m) (without_init (unplaced_maybe_init m)) (λ _ _. no_output) h (λ _ _. without_init_alike m)
 
 -- ## Declarators at file scope
 
@@ -275,11 +269,10 @@ parts_alike env b c h at to class s no_parts = alike (fine no_output)
 parts_alike env b c h at to class s (more_parts d m ps) =
     let t : Spec = unplaced_spec s in let e : Declarator = unplaced_declarator d in let i : MaybeInit = unplaced_maybe_init m in
     let rest : Checked Output = file_parts (behind_file_part env b at class s d m) (after_file_part env b at class s d m) at class s ps in
-    both_alike rest (file_parts (behind_file_part env c to class t e i) (after_file_part env c to class t e i) to class t (unplaced_parts ps)) (λ p q. fine (with_output p q)) (λ p q. fine (with_output p q))
+    joined_alike rest (file_parts (behind_file_part env c to class t e i) (after_file_part env c to class t e i) to class t (unplaced_parts ps)) (λ p q. with_output p q)
     (part_alike env b c h at to class s d m)
     (λ p f. subst (λ y. Alike Output rest (file_parts y (after_file_part env c to class t e i) to class t (unplaced_parts ps))) (behind_part_same env b c h at to class s d m p f)
     (parts_alike (behind_file_part env b at class s d m) (after_file_part env b at class s d m) (after_file_part env c to class t e i) (after_part_same env b c h at to class s d m) at to class s ps))
-    (λ p q. alike (fine (with_output p q)))
 
 behind_parts_same : (env : Env) (b c : Before) → c ≡ b → (at to : ℕ) (class : Storage) (s : Spec) (ps : Parts) (p : Output) → file_parts env b at class s ps ≡ fine p
     → (behind_file_parts env b at class s ps ≡ behind_file_parts env c to class (unplaced_spec s) (unplaced_parts ps)) × (after_file_parts env c to class (unplaced_spec s) (unplaced_parts ps) ≡ after_file_parts env b at class s ps)
@@ -308,13 +301,12 @@ module _ (env : Env) (b c : Before) (h : c ≡ b) (at to : ℕ) (s : Spec) (d : 
       let made : Env = behind_defined env at s d x in
       let other : Env = behind_defined env to spec₁ declarator₁ (unplaced_ident x) in
       let is : BlockItems = items_of_body body in
-      both_alike (on (type_declared env at s d) (defined_as made b (place_or at d) d x is)) (on (type_declared env to spec₁ declarator₁) (defined_as other c (place_or to declarator₁) declarator₁ (unplaced_ident x) (items_of_body (unplaced_stmt body))))
-      (λ _ f. fine (output_of_function f)) (λ _ f. fine (output_of_function f)) (function_declared_alike env true at to s d x)
+      joined_alike (on (type_declared env at s d) (defined_as made b (place_or at d) d x is)) (on (type_declared env to spec₁ declarator₁) (defined_as other c (place_or to declarator₁) declarator₁ (unplaced_ident x) (items_of_body (unplaced_stmt body))))
+      (λ _ f. output_of_function f) (function_declared_alike env true at to s d x)
       (λ m e. on_alike (defined_as made b (place_or at d) d x is) (defined_as other c (place_or to declarator₁) declarator₁ (unplaced_ident x) (items_of_body (unplaced_stmt body))) (type_declared_alike env at to s d)
       (λ t _. subst (λ y. Alike Function (defined_as made b (place_or at d) d x is t) (defined_as y c (place_or to declarator₁) declarator₁ (unplaced_ident x) (items_of_body (unplaced_stmt body)) t)) (behind_defined_same x m e)
       (subst (λ ks. Alike Function (defined_as made b (place_or at d) d x is t) (defined_as made c (place_or to declarator₁) declarator₁ (unplaced_ident x) ks t)) (sym (body_items_same body))
       (defined_alike made b c h (place_or at d) (place_or to declarator₁) d x is t))))
-      (λ _ f. alike (fine (output_of_function f)))
   function_option_alike function x = fault_alike C3 (place_or at d) (place_or to declarator₁)
 
   pub function_alike : Alike Output (function_named env b at s d body (declares_function d) (name_of d)) (function_named env c to spec₁ declarator₁ (unplaced_stmt body) (declares_function declarator₁) (name_of declarator₁))
@@ -364,10 +356,9 @@ module _ (env : Env) (b c : Before) (h : c ≡ b) (at to : ℕ) (s : Spec) (d : 
 item_alike : (env : Env) (b c : Before) → c ≡ b → (i : Item) → Alike Output (item env b i) (item env c (unplaced_item i))
 item_alike env b c h (struct_item at x ms) = gives_alike (λ _. no_output) (struct_alike env x ms)
 item_alike env b c h (enum_item at x es) =
-    both_alike (enumerators env (fine (pos 0)) es) (enumerators env (fine (pos 0)) (unplaced_enumerators es)) (λ _ _. fine no_output) (λ _ _. fine no_output)
+    joined_alike (enumerators env (fine (pos 0)) es) (enumerators env (fine (pos 0)) (unplaced_enumerators es)) (λ _ _. no_output)
     (subst (λ ts. Alike Met (new_enum env x (tags_of_enumerators es)) (new_enum env (unplaced_tag x) ts)) (sym (item_tags false (enum_item at x es))) (enum_alike env x (tags_of_enumerators es)))
     (λ _ _. enumerators_alike env (fine (pos 0)) (fine (pos 0)) (alike (fine (pos 0))) es)
-    (λ _ _. alike (fine no_output))
 item_alike env b c h (tag_item at x) = gives_alike (λ _. no_output) (tag_alike env x)
 item_alike env b c h (decl_item at (decl here class s ps)) = parts_alike env b c h here 0 class s ps
 item_alike env b c h (function_item at class s d body) = function_alike env b c h at 0 s d body
@@ -398,10 +389,9 @@ items_alike env b c h no_items = alike (fine no_output)
 items_alike env b c h (more_items i is) =
     let rest : Checked Output = items (behind_item env b i) (after_item env b i) is in
     let c1 : Before = after_item env c (unplaced_item i) in
-    both_alike rest (items (behind_item env c (unplaced_item i)) c1 (unplaced_unit is)) (λ p q. fine (with_output p q)) (λ p q. fine (with_output p q)) (item_alike env b c h i)
+    joined_alike rest (items (behind_item env c (unplaced_item i)) c1 (unplaced_unit is)) (λ p q. with_output p q) (item_alike env b c h i)
     (λ p f. subst (λ y. Alike Output rest (items y c1 (unplaced_unit is))) (behind_item_same env b c h i p f)
     (items_alike (behind_item env b i) (after_item env b i) c1 (after_item_same env b c h i p f) is))
-    (λ p q. alike (fine (with_output p q)))
 
 pub behind_items_same : (env : Env) (b c : Before) → c ≡ b → (u : Items) (p : Output) → items env b u ≡ fine p
     → (behind_items env b u ≡ behind_items env c (unplaced_unit u)) × (after_items env c (unplaced_unit u) ≡ after_items env b u)

@@ -55,13 +55,9 @@ object_means env defined x (faulty f fs) = unknown_no_function f fs
 
 -- ## Functions
 
-by_depth : (P : Option Meaning → Type 0) (b : Bool) (m : Meaning) → P None → P (Some m) → P (if b then Some m else None)
-by_depth P true m h k = k
-by_depth P false m h k = h
-
 -- what is defined behind a declaration that is no definition was so before it
-defined_before : (env : Env) (x : Name) (t : CType) → may_follow_function false t (declared_here env x) ≡ true → is_defined_by false (declared_here env x) ≡ true → IsDefined env.names x
-defined_before env x t f d = by_lookup (lookup env.names x) refl f d
+defined_before : (env : Env) → IsFileRight env → (x : Name) (t : CType) → may_follow_function false t (declared_here env x) ≡ true → is_defined_by false (declared_here env x) ≡ true → IsDefined env.names x
+defined_before env w x t f d = by_lookup (lookup env.names x) refl f d
   where
     by_meaning : (b : Binding) → lookup env.names x ≡ Some b → (m : Meaning) → b.means ≡ m → may_follow_function false t (Some m) ≡ true → is_defined_by false (Some m) ≡ true → IsDefined env.names x
     by_meaning b e (a_function u was) q f d = (b, u, e, q ∙ ap (a_function u) d)
@@ -69,7 +65,9 @@ defined_before env x t f d = by_lookup (lookup env.names x) refl f d
 
     by_lookup : (o : Option Binding) → lookup env.names x ≡ o → may_follow_function false t (at_depth env.depth o) ≡ true → is_defined_by false (at_depth env.depth o) ≡ true → IsDefined env.names x
     by_lookup None e f d = absurd (cc)
-    by_lookup (Some b) e f d = by_depth (λ o. may_follow_function false t o ≡ true → is_defined_by false o ≡ true → IsDefined env.names x) (nat_eq b.depth env.depth) b.means (λ f d. absurd (let q : false ≡ true = d in cc)) (by_meaning b e b.means refl) f d
+    by_lookup (Some b) e f d =
+        let here : at_depth env.depth (Some b) ≡ Some b.means = ap (at_depth env.depth) (sym e) ∙ here_is env w x b e in
+        by_meaning b e b.means refl (subst (λ o. may_follow_function false t o ≡ true) here f) (subst (λ o. is_defined_by false o ≡ true) here d)
 
 defined_flag : (t u : CType) (d : Bool) → a_function t d ≡ a_function u true → d ≡ true
 defined_flag t u d e = cc
@@ -78,7 +76,7 @@ most_within : (m : Mode) → most_functions m ≤ 4098
 most_within Plain = omega arith
 most_within Instrumented = omega arith
 
-module _ (env : Env) (x : Ident) (r : Checked Meaning) (m : Meaning) (e : r ≡ fine m) where
+module _ (env : Env) (w : IsFileRight env) (x : Ident) (r : Checked Meaning) (m : Meaning) (e : r ≡ fine m) where
   -- the newest declaration
   abbrev new : Binding
   new = record { name = x.name; depth = env.depth; means = meaning_or_unknown r }
@@ -92,7 +90,7 @@ module _ (env : Env) (x : Ident) (r : Checked Meaning) (m : Meaning) (e : r ≡ 
       older y d (inl q) =
           let means : meaning_or_unknown r ≡ a_function d.1 true = sym (ap (λ b. b.means) q.1) ∙ d.3 in
           let same : a_function h.type (is_defined_by false (declared_here env x.name)) ≡ a_function d.1 true = sym (ap meaning_or_unknown e ∙ h.named.is) ∙ means in
-          subst (IsDefined env.names) ((bytes_eq-Decides x.name y).0 q.0) (defined_before env x.name h.type h.named.follows (defined_flag h.type d.1 (is_defined_by false (declared_here env x.name)) same))
+          subst (IsDefined env.names) ((bytes_eq-Decides x.name y).0 q.0) (defined_before env w x.name h.type h.named.follows (defined_flag h.type d.1 (is_defined_by false (declared_here env x.name)) same))
       older y d (inr q) = (d.0, d.1, q, d.3)
 
 -- a definition
@@ -197,7 +195,7 @@ part_gives env w b at class s d m (Some x) q l e = by_kind (declares_function d)
     by_kind true k g n e z =
         let t : Checked Meaning = function_declared env false at s d x in
         let i = first_fine t (without_init m) (λ _ _. fine no_output) q e in
-        nothing_given env (behind_function env x.name t) b q w z (prototype_defines env x t i.0 i.2 (held (IsFunctionDeclared env false x) t i.0 (function_declared_right env false x at s d g) i.2)) i.4
+        nothing_given env (behind_function env x.name t) b q w z (prototype_defines env w x t i.0 i.2 (held (IsFunctionDeclared env false x) t i.0 (function_declared_right env false x at s d g) i.2)) i.4
     by_kind false k g n e z =
         subst (λ y. Gives env b (behind_global env y x r) (after_declared env b at s d m k (Some x)) q [] (if k then x.name ∷ [] else [])) (sym n)
         (by_object k n (subst (λ y. global env y b x m r ≡ fine q) n e) (subst (λ y. Step env (behind_global env y x r)) n z))

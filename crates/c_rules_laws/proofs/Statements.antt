@@ -25,7 +25,7 @@ use Rattle.c_rules.specs.Variables.{Next, past_names, names_of_decl, names_of_fi
 use Rattle.c_rules.specs.Blocks.{behind_decl, behind_first, held_by_stmt, held_by_block, held_by_stmts, held_by_groups, after_decl, after_first, after_stmt, after_stmts, StatementTree, bare, with_tree, joined, one_more, some_more, local_decl}
 use Rattle.c_rules.specs.Statements.{Around, in_loop, in_switch, condition_at, test_of, step_of, first_of, for_of, switched_kind, switched, label_type, labels_of, Labelled, no_labelled, labelled, are_distinct, switch_of, returned, stmt, items_of_block, stmts, groups_of_switch}
 use Rattle.c_rules_laws.proofs.Leads.{first_fine, on_fine}
-use Rattle.c_rules_laws.proofs.Alike.{Alike, alike, fine_there, on_alike, gives_alike, both_alike, three_alike, demand_alike, fault_alike}
+use Rattle.c_rules_laws.proofs.Alike.{Alike, alike, fine_there, on_alike, gives_alike, both_alike, joined_alike, three_alike, demand_alike, fault_alike}
 use Rattle.c_rules_laws.proofs.Operators.{assigned_alike, condition_alike}
 use Rattle.c_rules_laws.proofs.Declared.{constant_alike}
 use Rattle.c_rules_laws.proofs.Expressions.{value_alike, folded_alike, strings_same, past_same, after_same}
@@ -63,9 +63,9 @@ label_type_same r s g h e = ap label_type (fine_there g h e) ∙ sym (ap label_t
 labels_alike : (env : Env) (i : IntType) (ls : Labels) → Alike (List TLabel) (labels_of env i ls) (labels_of env i (unplaced_labels ls))
 labels_alike env i no_labels = alike (fine [])
 labels_alike env i (case_label at e ls) =
-    both_alike (labels_of env i ls) (labels_of env i (unplaced_labels ls)) (λ v vs. fine (Case (value_of i (number_of v)) ∷ vs)) (λ v vs. fine (Case (value_of i (number_of v)) ∷ vs))
+    joined_alike (labels_of env i ls) (labels_of env i (unplaced_labels ls)) (λ v vs. Case (value_of i (number_of v)) ∷ vs)
     (on_alike (constant_value (place_of e)) (constant_value (place_of (unplaced e))) (folded_alike env e) (λ g _. constant_alike (place_of e) (place_of (unplaced e)) g))
-    (λ _ _. labels_alike env i ls) (λ v vs. alike (fine (Case (value_of i (number_of v)) ∷ vs)))
+    (λ _ _. labels_alike env i ls)
 labels_alike env i (default_label at ls) = gives_alike (λ vs. Default ∷ vs) (labels_alike env i ls)
 
 switch_alike : (at to : ℕ) (g : TypedExpression) (gs : Labelled) → Alike (StatementTree typed.Stmt) (switch_of at g gs) (switch_of to g gs)
@@ -158,9 +158,9 @@ mutual
   stmt_alike env a b c h n k g (empty at) = alike (fine (bare typed.empty))
   stmt_alike env a b c h n k g (evaluate at e) = gives_alike (λ g. bare (typed.evaluate (tree_of g))) (value_alike env b c h e)
   stmt_alike env a b c h n k g (only_if at e s) =
-      both_alike (stmt env a (after b e) n s) (stmt env a (after c (unplaced e)) k (unplaced_stmt s)) (λ c p. fine (with_tree p (typed.if_else c p.tree typed.empty))) (λ c p. fine (with_tree p (typed.if_else c p.tree typed.empty)))
+      joined_alike (stmt env a (after b e) n s) (stmt env a (after c (unplaced e)) k (unplaced_stmt s)) (λ c p. with_tree p (typed.if_else c p.tree typed.empty))
       (condition_at_alike at 0 (value env b e) (value env c (unplaced e)) (value_alike env b c h e))
-      (λ _ _. stmt_alike env a (after b e) (after c (unplaced e)) (after_same b c e h) n k g s) (λ c p. alike (fine (with_tree p (typed.if_else c p.tree typed.empty))))
+      (λ _ _. stmt_alike env a (after b e) (after c (unplaced e)) (after_same b c e h) n k g s)
   stmt_alike env a b c h n k g (if_else at e s t) =
       let b1 : Before = after b e in let c1 : Before = after c (unplaced e) in let h1 : c1 ≡ b1 = after_same b c e h in
       let n1 : Next = past_names n (names_of_stmt s) in let k1 : Next = past_names k (names_of_stmt (unplaced_stmt s)) in
@@ -170,14 +170,14 @@ mutual
       (λ _ p _ f. stmt_alike env a (after_stmt env b1 n s) (after_stmt env c1 k (unplaced_stmt s)) (after_stmt_same env a b1 c1 h1 n k g s p f) n1 k1 (past_names_same n k (names_of_stmt s) (names_of_stmt (unplaced_stmt s)) g ((stmt_same s).1)) t)
       (λ c p q. alike (fine (joined p q (typed.if_else c p.tree q.tree))))
   stmt_alike env a b c h n k g (while_loop at e s) =
-      both_alike (stmt env (in_loop a) (after b e) n s) (stmt env (in_loop a) (after c (unplaced e)) k (unplaced_stmt s)) (λ c p. fine (with_tree p (typed.while_loop c p.tree))) (λ c p. fine (with_tree p (typed.while_loop c p.tree)))
+      joined_alike (stmt env (in_loop a) (after b e) n s) (stmt env (in_loop a) (after c (unplaced e)) k (unplaced_stmt s)) (λ c p. with_tree p (typed.while_loop c p.tree))
       (condition_at_alike at 0 (value env b e) (value env c (unplaced e)) (value_alike env b c h e))
-      (λ _ _. stmt_alike env (in_loop a) (after b e) (after c (unplaced e)) (after_same b c e h) n k g s) (λ c p. alike (fine (with_tree p (typed.while_loop c p.tree))))
+      (λ _ _. stmt_alike env (in_loop a) (after b e) (after c (unplaced e)) (after_same b c e h) n k g s)
   stmt_alike env a b c h n k g (do_loop at s e) =
       let b1 : Before = after_stmt env b n s in let c1 : Before = after_stmt env c k (unplaced_stmt s) in
-      both_alike (condition_at at (value env b1 e)) (condition_at 0 (value env c1 (unplaced e))) (λ p c. fine (with_tree p (typed.do_loop p.tree c))) (λ p c. fine (with_tree p (typed.do_loop p.tree c)))
+      joined_alike (condition_at at (value env b1 e)) (condition_at 0 (value env c1 (unplaced e))) (λ p c. with_tree p (typed.do_loop p.tree c))
       (stmt_alike env (in_loop a) b c h n k g s)
-      (λ p f. condition_at_alike at 0 (value env b1 e) (value env c1 (unplaced e)) (value_alike env b1 c1 (after_stmt_same env (in_loop a) b c h n k g s p f) e)) (λ p c. alike (fine (with_tree p (typed.do_loop p.tree c))))
+      (λ p f. condition_at_alike at 0 (value env b1 e) (value env c1 (unplaced e)) (value_alike env b1 c1 (after_stmt_same env (in_loop a) b c h n k g s p f) e))
   stmt_alike env a b c h n k g (for_loop at first test step s) =
       let outer : Env = inside env in
       let inner : Env = behind_first outer n first in
@@ -196,8 +196,8 @@ mutual
       let h1 : c1 ≡ b1 = after_first_same outer b c h n k g first p f in
       let h2 : c2 ≡ b2 = after_maybe_same b1 c1 test h1 in
       subst (λ y. Alike (Two typed.Maybe typed.Maybe) (beside (test_of inner b1 at test) (step_of inner b2 step)) (beside (test_of y c1 0 (unplaced_maybe test)) (step_of y c2 (unplaced_maybe step)))) (behind_first_same outer b n k g first p f)
-      (both_alike (step_of inner b2 step) (step_of inner c2 (unplaced_maybe step)) (λ a b. fine (record { first = a; second = b })) (λ a b. fine (record { first = a; second = b }))
-      (test_alike inner b1 c1 h1 at 0 test) (λ _ _. step_alike inner b2 c2 h2 step) (λ a b. alike (fine (record { first = a; second = b })))))
+      (joined_alike (step_of inner b2 step) (step_of inner c2 (unplaced_maybe step)) (λ a b. record { first = a; second = b })
+      (test_alike inner b1 c1 h1 at 0 test) (λ _ _. step_alike inner b2 c2 h2 step)))
       (λ p _ f _.
       let h1 : c1 ≡ b1 = after_first_same outer b c h n k g first p f in
       let h2 : c2 ≡ b2 = after_maybe_same b1 c1 test h1 in
@@ -222,25 +222,22 @@ mutual
   items_alike env a b c h n k g (block_decl d is) =
       let rest : Checked (StatementTree typed.Stmts) = items_of_block (behind_decl env n d) a (after_decl env b n d) (past_names n (names_of_decl d)) is in
       let c1 : Before = after_decl env c k (unplaced_decl d) in let k1 : Next = past_names k (names_of_decl (unplaced_decl d)) in
-      both_alike rest (items_of_block (behind_decl env k (unplaced_decl d)) a c1 k1 (unplaced_block_items is)) (λ p q. fine (some_more p q)) (λ p q. fine (some_more p q)) (decl_alike env b c h n k g d)
+      joined_alike rest (items_of_block (behind_decl env k (unplaced_decl d)) a c1 k1 (unplaced_block_items is)) (λ p q. some_more p q) (decl_alike env b c h n k g d)
       (λ p f. subst (λ y. Alike (StatementTree typed.Stmts) rest (items_of_block y a c1 k1 (unplaced_block_items is))) (behind_decl_same env b n k g d p f)
       (items_alike (behind_decl env n d) a (after_decl env b n d) c1 (after_decl_same env b c h n k g d p f) (past_names n (names_of_decl d)) k1 (past_names_same n k (names_of_decl d) (names_of_decl (unplaced_decl d)) g (decl_names_same d)) is))
-      (λ p q. alike (fine (some_more p q)))
   items_alike env a b c h n k g (block_stmt s is) =
       let n1 : Next = past_names n (names_of_stmt s) in let k1 : Next = past_names k (names_of_stmt (unplaced_stmt s)) in
-      both_alike (items_of_block env a (after_stmt env b n s) n1 is) (items_of_block env a (after_stmt env c k (unplaced_stmt s)) k1 (unplaced_block_items is)) (λ p q. fine (one_more p q)) (λ p q. fine (one_more p q))
+      joined_alike (items_of_block env a (after_stmt env b n s) n1 is) (items_of_block env a (after_stmt env c k (unplaced_stmt s)) k1 (unplaced_block_items is)) (λ p q. one_more p q)
       (stmt_alike env a b c h n k g s)
       (λ p f. items_alike env a (after_stmt env b n s) (after_stmt env c k (unplaced_stmt s)) (after_stmt_same env a b c h n k g s p f) n1 k1 (past_names_same n k (names_of_stmt s) (names_of_stmt (unplaced_stmt s)) g ((stmt_same s).1)) is)
-      (λ p q. alike (fine (one_more p q)))
 
   stmts_alike : (env : Env) (a : Around) (b c : Before) → c ≡ b → (n k : Next) → k ≡ n → (ss : Stmts) → Alike (StatementTree typed.Stmts) (stmts env a b n ss) (stmts env a c k (unplaced_stmts ss))
   stmts_alike env a b c h n k g no_stmts = alike (fine (bare typed.no_stmts))
   stmts_alike env a b c h n k g (more_stmts s ss) =
       let n1 : Next = past_names n (names_of_stmt s) in let k1 : Next = past_names k (names_of_stmt (unplaced_stmt s)) in
-      both_alike (stmts env a (after_stmt env b n s) n1 ss) (stmts env a (after_stmt env c k (unplaced_stmt s)) k1 (unplaced_stmts ss)) (λ p q. fine (one_more p q)) (λ p q. fine (one_more p q))
+      joined_alike (stmts env a (after_stmt env b n s) n1 ss) (stmts env a (after_stmt env c k (unplaced_stmt s)) k1 (unplaced_stmts ss)) (λ p q. one_more p q)
       (stmt_alike env a b c h n k g s)
       (λ p f. stmts_alike env a (after_stmt env b n s) (after_stmt env c k (unplaced_stmt s)) (after_stmt_same env a b c h n k g s p f) n1 k1 (past_names_same n k (names_of_stmt s) (names_of_stmt (unplaced_stmt s)) g ((stmt_same s).1)) ss)
-      (λ p q. alike (fine (one_more p q)))
 
   groups_alike : (env : Env) (a : Around) (b c : Before) → c ≡ b → (n k : Next) → k ≡ n → (i : IntType) (gs : Groups) → Alike Labelled (groups_of_switch env a b n i gs) (groups_of_switch env a c k i (unplaced_groups gs))
   groups_alike env a b c h n k g i no_groups = alike (fine no_labelled)

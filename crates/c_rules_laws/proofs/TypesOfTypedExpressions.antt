@@ -52,9 +52,6 @@ module _ (structs : Structs) where
   pub sized_int : (i : IntType) → IsSized structs (integer i)
   sized_int i = record { made = tt; few = tt }
 
-  pub value_int : (i : IntType) → IsValueType (integer i)
-  value_int i = record { made = tt; result = tt }
-
   pub scalar_result : (t : CType) → IsScalar t → IsResult t
   scalar_result (integer i) h = tt
   scalar_result (pointer t) h = tt
@@ -84,9 +81,6 @@ module _ (env : Env) where
   valued_typed at g h = valued_as_typed at g g.ctype refl h
 
 module _ (structs : Structs) where
-  pub converted_typed : (i : IntType) (g : TypedExpression) → TypedExpressionTyped structs g → TypedExpressionTyped structs (converted_to i g)
-  converted_typed i g h = either (TypedExpressionTyped structs) (has_integer i g.ctype) g (cast_to i g) (λ _. h) (value_int structs i)
-
   -- ## Calls
 
   pub called_typed : (at : ℕ) (f : Callee) (site : ℕ) (gs : List TypedExpression) → IsCalleeTyped structs f → Holds (TypedExpressionSized structs) (called at f site gs)

@@ -113,7 +113,7 @@ module _ (p : Program) (last : Env) (table : IsTable p last) (all : List (List �
       (tt, (record { object = object; typed = cells_zip (flat p.structs o.whole) gs (subst (λ ts. TypesAre p [] ts gs) (sym (same_flat (layout_of env) p.structs w0.within.sound w0.within.grows o.whole h.right.known)) cells.0) cells.1 }, tt))
 
   -- strings before a part are among those behind it
-  gives_right : {env inner : Env} {b a : Before} {q : Output} {xs ys : List Name} → Gives env b inner a q xs ys → Follows inner last → Begins a.strings all → IsOutputRight q
+  pub gives_right : {env inner : Env} {b a : Before} {q : Output} {xs ys : List Name} → Gives env b inner a q xs ys → Follows inner last → Begins a.strings all → IsOutputRight q
   gives_right (starts w) g h = (tt, tt)
   gives_right {inner = inner} (declares {middle = c} k s d) g h = gives_right k (follows_on c inner last s.1 g) h
   gives_right {env} {b = b} (an_object x m o gs w l n f s) g h = global_right env w b x m o gs n s.0 l f (follows_on env (behind_global env true x (fine o)) last s.1 g) g h
@@ -121,6 +121,3 @@ module _ (p : Program) (last : Env) (table : IsTable p last) (all : List (List �
   gives_right {inner = inner} (one_and_more {middle = e} {c = c} {a = a} {q = q} {r = r} j k) g h =
       let more = gives_spans k in
       output_both q r (gives_right j (follows_on e inner last (gives_step k).1 g) (begins_on c.strings a.strings all (more.more, more.strings) h)) (gives_right k g h)
-
-  pub items_right : (is : Items) (env : Env) → IsFileRight env → (b : Before) (q : Output) → IsUnitLexical is → items env b is ≡ fine q → Follows (behind_items env b is) last → Begins (after_items env b is).strings all → IsOutputRight q
-  items_right is env w b q l e g h = gives_right (items_give is env w b q l e) g h

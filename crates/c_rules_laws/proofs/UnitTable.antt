@@ -28,7 +28,7 @@ use Rattle.c_rules_laws.proofs.FileItems.{Step, items_step}
 use Rattle.c_rules_laws.proofs.UnitScopes.{IsTable, suc_some}
 use Rattle.c_rules_laws.proofs.UnitShape.{Zip, zip_at, zip_long, IsFunctionOf, IsObjectOf, HasShape, gives_shape}
 use Rattle.c_rules_laws.proofs.NamesOfItems.{items_give}
-use Rattle.c_rules_laws.proofs.UnitItems.{begins_self, AreFunctions, AreStatics, items_right}
+use Rattle.c_rules_laws.proofs.UnitItems.{begins_self, AreFunctions, AreStatics, gives_right}
 
 -- ## Before all items
 
@@ -115,7 +115,7 @@ module _ (m : Mode) (u : Items) (out : Output) (lexical : IsUnitLexical u) (type
       (static_string w, ap (λ k. slice_get (out.statics ++ map static_string (strings_of m u)) (k + j)) (sym n) ∙ (get_right out.statics (map static_string (strings_of m u)) j ∙ (slice_get-map static_string (strings_of m u) j ∙ ap (option_map static_string) e)), refl, refl)
 
   outputs : AreFunctions (program_of m u out) (env_behind m u) table (strings_of m u) string_at out.functions × AreStatics (program_of m u out) (env_behind m u) table (strings_of m u) string_at out.statics
-  outputs = items_right (program_of m u out) (env_behind m u) table (strings_of m u) string_at u (env_before m u) (before_right (whole_of m u)) nothing_before out lexical typed (follows_self (env_behind m u)) (begins_self (strings_of m u))
+  outputs = gives_right (program_of m u out) (env_behind m u) table (strings_of m u) string_at (items_give u (env_before m u) (before_right (whole_of m u)) nothing_before out lexical typed) (follows_self (env_behind m u)) (begins_self (strings_of m u))
 
   no_objects : (ws : List (List ℕ)) → All (IsRightObject (program_of m u out)) (map static_string ws)
   no_objects [] = λ k d l. absurd (omega (arith, l))
