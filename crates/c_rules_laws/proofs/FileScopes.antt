@@ -1,7 +1,7 @@
 -- Scopes at file scope: what each declaration that is fine makes of them, and what later ones keep.
 use Rattle.std.proofs.Common.{◌≡◌, inl, inr, ℕ, zero, suc, ◌≤◌, ◌<◌, Bool, true, false, cond, List, [], ◌∷◌, ◌++◌, All, map, length, Option, Some, None, slice_get, slice_set, set, unwrap_or, refl, ap, sym, subst, ◌∙◌, arith}
 use Rattle.std.specs.Prelude.{bytes_eq}
-use Rattle.std.proofs.lemmas.List.{length-map}
+use Rattle.std.proofs.lemmas.List.{length-map, map-set}
 use Rattle.std.proofs.lemmas.List.Elements.{All-cons}
 use Rattle.std.proofs.lemmas.Slice.Eq.{bytes_eq-Decides}
 use Rattle.c_tree.specs.declared.value.Value.TheVariants as v
@@ -32,10 +32,6 @@ use Rattle.c_rules.proofs.FileScopeLemmas.{within_or}
 
 -- ## Structs
 
-map_set : (xs : List Struct) (n : ℕ) (s : Struct) → map types_of_struct (slice_set xs n s) ≡ set (map types_of_struct xs) n (types_of_struct s)
-map_set (x ∷ xs) (suc n) s = ap (λ ys. types_of_struct x ∷ ys) (map_set xs n s)
-map_set xs n s = refl
-
 set_past : {A : Type 0} (xs : List A) (n : ℕ) (v : A) → length xs ≤ n → set xs n v ≡ xs
 set_past [] n v h = refl
 set_past (x ∷ xs) zero v h = absurd (omega (arith, h))
@@ -57,7 +53,7 @@ pub struct_defined : (env : Env) (x : Name) (ms : List Member) → AreSound (lay
 struct_defined env x ms sound e c m some few =
     let n : ℕ = tag_number env x in
     let ts : List CType = map type_of_member ms in
-    let same : set (layout_of env) n (Some ts) ≡ layout_of (with_struct env x (defined_struct ms)) = sym (map_set env.structs n (defined_struct ms)) in
+    let same : set (layout_of env) n (Some ts) ≡ layout_of (with_struct env x (defined_struct ms)) = sym (map-set types_of_struct env.structs n (defined_struct ms)) in
     subst (λ new. AreSound new × Grows (layout_of env) new) same
     (elim (within_or n (length env.structs)) as (λ _. AreSound (set (layout_of env) n (Some ts)) × Grows (layout_of env) (set (layout_of env) n (Some ts))) [
       | inl l ↦ (let long : n < length (layout_of env) = subst (λ k. n < k) (sym (length-map env.structs types_of_struct)) l in

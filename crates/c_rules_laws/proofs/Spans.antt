@@ -33,6 +33,7 @@ use Rattle.c_rules_laws.proofs.KnownCells.{static_known}
 use Rattle.c_rules.proofs.NothingMore.{nothing_more}
 use Rattle.c_rules.specs.Names.{Name}
 use Rattle.c_rules.specs.TypedExpression.{TypedExpression}
+use Rattle.std.proofs.lemmas.List.Concat.{flat_map-append}
 
 -- what stands before a part, what stands behind it, and what it gives
 pub record Spans (b a : Before) (q : Output) : Type 0 where
@@ -59,14 +60,10 @@ spans_none b = record {
   many = omega arith;
 }
 
-functions_sites : (fs gs : List Function) → flat_map sites_of_function (fs ++ gs) ≡ flat_map sites_of_function fs ++ flat_map sites_of_function gs
-functions_sites [] gs = refl
-functions_sites (f ∷ fs) gs = ap (λ xs. sites_of_function f ++ xs) (functions_sites fs gs) ∙ sym (append_assoc (sites_of_function f) (flat_map sites_of_function fs) (flat_map sites_of_function gs))
-
 spans_both : (b a c : Before) (q r : Output) → Spans b a q → Spans a c r → Spans b c (with_output q r)
 spans_both b a c q r h k = record {
   count = h.count + k.count;
-  sites = functions_sites q.functions r.functions ∙ (ap₂ (λ xs ys. xs ++ ys) h.sites (k.sites ∙ ap (λ n. range_with_len n k.count) h.counted) ∙ sym (range_append b.sites h.count k.count));
+  sites = flat_map-append sites_of_function q.functions r.functions ∙ (ap₂ (λ xs ys. xs ++ ys) h.sites (k.sites ∙ ap (λ n. range_with_len n k.count) h.counted) ∙ sym (range_append b.sites h.count k.count));
   counted = (let x = h.counted in let y = k.counted in omega (arith, x, y));
   more = h.more ++ k.more;
   strings = k.strings ∙ (ap (λ ws. ws ++ k.more) h.strings ∙ append_assoc b.strings h.more k.more);
