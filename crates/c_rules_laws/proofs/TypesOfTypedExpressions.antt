@@ -12,14 +12,14 @@ use Rattle.c_rules.specs.Names.{Name}
 use Rattle.c_rules.specs.Types.{is_integer}
 use Rattle.c_rules.specs.Scopes.{Env, Struct, incomplete, defined_struct, Member, struct_of, types_of_struct, type_of_member, layout_of}
 use Rattle.c_rules.specs.TypedExpression.{Form, a_value, TypedExpression, is_place, is_null}
-use Rattle.c_rules.specs.Conversions.{kind_of, few_parts, loaded, valued_as, valued, cast_to, has_integer, converted_to, null_of}
+use Rattle.c_rules.specs.Conversions.{kind_of, few_parts, loaded, valued_as, valued, cast_to, null_of}
 use Rattle.c_rules.specs.PostfixExpressions.{Callee, callee_of_type, callee_through, all_fit, as_many_as, called, member_of}
 use Rattle.c_rules.specs.UnaryExpressions.{address, indirection, unary_of_value, cast_of, null_cast}
 use Rattle.c_rules.specs.BinaryExpressions.{operation, choice}
 use Rattle.c_rules.specs.Assignments.{assignable, operator_of_assignment, assignment_by, one_for, step, last_type, comma_of}
 use Rattle.c_rules_laws.specs.MadeTypes.{NotArray, Made, AllMade, FewCells, IsSized}
 use Rattle.c_rules_laws.specs.SoundStructs.{AreSound}
-use Rattle.c_rules_laws.proofs.Holding.{Holds, holds_map, demand_holds, behind_demand, either}
+use Rattle.c_rules_laws.proofs.Holding.{Holds, holds_map, demand_holds, behind_demand}
 use Rattle.c_rules_laws.proofs.MadeTypes.{result_not_array, few_unless_array}
 pub use Rattle.c_rules_laws.proofs.Operators.{kind_pointer}
 use Rattle.c_rules_laws.proofs.Operators.{IsMember, a_member, IsAddress, of_place, of_leader, IsLedTo, led, OfOne, leads, ArePointers, left_null, OfTwo, adds_right, adds_left, takes, OfChoice, integers_chosen, pointers_chosen, voids_chosen, OfUpdate, assigns, member_agrees, address_agrees, indirection_agrees, unary_agrees, operation_agrees, choice_agrees, assignment_agrees, step_agrees, infix_agrees}

@@ -18,10 +18,10 @@ use Rattle.c_rules.specs.Expressions.{type_declared}
 use Rattle.c_rules.specs.Initialisers.{initialised_static, value_of_constant, value_of_cell, held_by}
 use Rattle.c_rules.specs.Objects.{Object}
 use Rattle.c_rules.specs.Functions.{parameters_of, is_defined_by, declares_function, held_by_type, items_of_body, defined_as}
-use Rattle.c_rules.specs.Items.{Output, with_output, static_of, output_of_function, behind_global, within_global, after_object, behind_defined, items, behind_items, after_items}
+use Rattle.c_rules.specs.Items.{Output, with_output, static_of, output_of_function, behind_global, within_global, after_object, behind_defined}
 use Rattle.c_rules.proofs.NothingMore.{nothing_more}
 use Rattle.c_meaning_laws.proofs.Places.{get_left, get_right}
-use Rattle.c_rules_laws.specs.Lexical.{IsMaybeInitLexical, IsStmtLexical, AreItemsLexical, IsUnitLexical}
+use Rattle.c_rules_laws.specs.Lexical.{IsMaybeInitLexical, IsStmtLexical, AreItemsLexical}
 use Rattle.c_rules_laws.specs.MadeTypes.{Made, IsSized}
 use Rattle.c_rules_laws.specs.RightScopes.{MeaningRight, IsRight, StringsIn}
 use Rattle.c_rules_laws.proofs.Holding.{held, Each, each_both}
@@ -37,7 +37,7 @@ use Rattle.c_rules_laws.proofs.FileItems.{Step, IsObjectNamed}
 use Rattle.c_rules_laws.proofs.UnitScopes.{IsTable, object_at, scope_right}
 use Rattle.c_rules_laws.proofs.UnitFunctions.{ParamsFit, type_fits, function_right}
 use Rattle.c_rules_laws.proofs.UnitShape.{just_declared}
-use Rattle.c_rules_laws.proofs.NamesOfItems.{Gives, starts, declares, an_object, a_definition, one_and_more, gives_step, items_give}
+use Rattle.c_rules_laws.proofs.NamesOfItems.{Gives, starts, declares, an_object, a_definition, one_and_more, gives_step}
 use Rattle.c_rules_laws.proofs.Spans.{gives_spans}
 use Rattle.c_rules.specs.Names.{Name}
 
