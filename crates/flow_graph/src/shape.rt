@@ -2,7 +2,6 @@ use dm_base::{Pattern, SysName};
 
 /// The shape of a construct of C: the control flow of which only system calls, calls at sites and ways to
 /// leave a construct are kept (Wagner and Dean 2001).
-#[derive(Drop)]
 pub enum Shape {
     /// Nothing that matters.
     Skip,
@@ -28,4 +27,19 @@ pub enum Shape {
     Continue,
     /// `return`
     Return,
+}
+
+impl Drop for Shape {
+    #[cycle(shapes_let_go)]
+    fn drop(self) {
+        match self {
+            Shape::Skip | Shape::Sys(_, _) | Shape::Exit(_) | Shape::Call(_) => {}
+            Shape::Break | Shape::Continue | Shape::Return => {}
+            Shape::Seq(_first, _rest) => {}
+            Shape::Alt(_one, _other) => {}
+            Shape::Loop(_test, _body, _step) => {}
+            Shape::Do(_body, _test) => {}
+            Shape::Cases(_groups, _) => {}
+        }
+    }
 }

@@ -1,18 +1,17 @@
-ghost use Rattle.std.specs.Prelude.{◌≡◌, ◌<◌, ◌^◌, ◌∷◌, ◌++◌, [], Contains, OnOk, IfOk};
+ghost use Rattle.std.specs.Prelude.{◌≡◌, ◌<◌, ◌^◌, ◌∷◌, ◌++◌, [], OnOk, IfOk};
 ghost use Rattle.std.specs.Ordering.{nat_cmp};
 ghost use Rattle.flow_graph.specs.View.{shapes_in};
 ghost use Rattle.flow_graph.specs.Edges.{edge_of, edges_in};
-ghost use Rattle.flow_model.specs.Order.{StrictlyRise};
 ghost use Rattle.flow_graph_laws.specs.GraphOf.{edges_from, nodes_from};
 ghost use Rattle.flow_graph_laws.specs.Sorted.{sorted};
 ghost use Rattle.flow_graph.specs.SiteEdges.{site_edges, site_edge_order};
 
 use crate::edge::{Edge, Label};
 use crate::functions::edges_of;
+use crate::lists::in_order;
 use crate::shape::Shape;
 use dm_base::OutOfMemory;
 use std::alloc::Global;
-use std::cmp::Ordering;
 
 // An edge that passes the call at a site. Such edges are ordered by their fields from the first on.
 #[derive(Clone, Copy, Debug, PartialEq, Eq, PartialOrd, Ord)]
@@ -20,16 +19,6 @@ pub struct SiteEdge {
     pub site: u32,
     pub from: u32,
     pub to: u32,
-}
-
-// Sorts the items, and leaves out those that are there already.
-fn in_order<T: Ord + Drop>(items: &mut Vec<T>)
-    ensures rise { StrictlyRise T.cmp items.new.items }
-    ensures from { (x : T) → Contains items.new.items x → Contains items.old.items x }
-    ensures all { (x : T) → Contains items.old.items x → (y : T) × Contains items.new.items y × (T.cmp x y ≡ Ordering.Equal) }
-{
-    items.sort_unstable();
-    items.dedup();
 }
 
 // Sorts the numbers, and leaves each once.
