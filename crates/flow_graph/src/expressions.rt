@@ -1,7 +1,7 @@
 ghost use Rattle.std.specs.Prelude.{◌≡◌, false, slice_index_or, IfOk};
 ghost use Rattle.c_tree.specs.View.{expr_of, exprs_of, maybe_of, inits_of};
-ghost use Rattle.c_shapes.specs.Shape.{End};
-ghost use Rattle.c_shapes.specs.ShapeOf.{system_call, without_skips, seq};
+ghost use Rattle.c_shapes.specs.Shape.{Skip, End};
+ghost use Rattle.c_shapes.specs.ShapeOf.{system_call, without_skips, seq, seq_two, alt as alt_of};
 ghost use Rattle.flow_graph.specs.View.{shape_of, parts_of};
 ghost use Rattle.flow_graph.specs.Sited.{call_at, direct_at, expr_at, exprs_at, maybe_at, inits_at};
 
@@ -93,49 +93,40 @@ impl<'p> Reading<'p> {
             TExprKind::Convert(_, a) => self.expression(alloc, a),
             TExprKind::Arith(_, a, b) => {
                 let first = self.expression(alloc, a)?;
-                let second = self.expression(alloc, b)?;
-                two(alloc, first, second)
+                self.after(alloc, b, first)
             }
             TExprKind::Compare(_, a, b) => {
                 let first = self.expression(alloc, a)?;
-                let second = self.expression(alloc, b)?;
-                two(alloc, first, second)
+                self.after(alloc, b, first)
             }
             TExprKind::PointerAdd { left, right, .. } => {
                 let first = self.expression(alloc, left)?;
-                let second = self.expression(alloc, right)?;
-                two(alloc, first, second)
+                self.after(alloc, right, first)
             }
             TExprKind::PointerDiff(a, b) => {
                 let first = self.expression(alloc, a)?;
-                let second = self.expression(alloc, b)?;
-                two(alloc, first, second)
+                self.after(alloc, b, first)
             }
             TExprKind::And(a, b) => {
                 let first = self.expression(alloc, a)?;
-                let second = self.expression(alloc, b)?;
-                perhaps(alloc, first, second)
+                self.perhaps_after(alloc, b, first)
             }
             TExprKind::Or(a, b) => {
                 let first = self.expression(alloc, a)?;
-                let second = self.expression(alloc, b)?;
-                perhaps(alloc, first, second)
+                self.perhaps_after(alloc, b, first)
             }
             TExprKind::Assign(a, b) => {
                 let first = self.expression(alloc, a)?;
-                let second = self.expression(alloc, b)?;
-                two(alloc, first, second)
+                self.after(alloc, b, first)
             }
             TExprKind::Update { place, value, .. } => {
                 let first = self.expression(alloc, place)?;
-                let second = self.expression(alloc, value)?;
-                two(alloc, first, second)
+                self.after(alloc, value, first)
             }
             TExprKind::Cond(test, yes, no) => {
                 let first = self.expression(alloc, test)?;
                 let one = self.expression(alloc, yes)?;
-                let other = self.expression(alloc, no)?;
-                one_of(alloc, first, one, other)
+                self.one_after(alloc, no, first, one)
             }
             TExprKind::Comma(es) => {
                 let parts = self.expressions(alloc, es)?;
@@ -160,6 +151,39 @@ impl<'p> Reading<'p> {
                 between(alloc, pointer, parts, self.marked_call(*site))
             }
         }
+    }
+
+    // A part, and the shape of an expression after it.
+    #[cycle(expressions)]
+    fn after(&self, alloc: Global, e: &TExpr, first: Shape) -> Result<Shape, OutOfMemory>
+        ensures { IfOk result (λ s. shape_of s ≡ seq_two (shape_of first) (expr_at self.now.defined self.now.marks.now (expr_of e.now))) }
+    {
+        let second = self.expression(alloc, e)?;
+        two(alloc, first, second)
+    }
+
+    // A part, and after it the shape of an expression or nothing.
+    #[cycle(expressions)]
+    fn perhaps_after(&self, alloc: Global, e: &TExpr, first: Shape) -> Result<Shape, OutOfMemory>
+        ensures { IfOk result (λ s. shape_of s ≡ seq_two (shape_of first) (alt_of (expr_at self.now.defined self.now.marks.now (expr_of e.now)) Skip)) }
+    {
+        let second = self.expression(alloc, e)?;
+        perhaps(alloc, first, second)
+    }
+
+    // A part, and after it another or the shape of an expression.
+    #[cycle(expressions)]
+    fn one_after(
+        &self,
+        alloc: Global,
+        e: &TExpr,
+        first: Shape,
+        one: Shape,
+    ) -> Result<Shape, OutOfMemory>
+        ensures { IfOk result (λ s. shape_of s ≡ seq_two (shape_of first) (alt_of (shape_of one) (expr_at self.now.defined self.now.marks.now (expr_of e.now)))) }
+    {
+        let other = self.expression(alloc, e)?;
+        one_of(alloc, first, one, other)
     }
 
     // The shapes of expressions, from the left to the right, but those that are nothing.

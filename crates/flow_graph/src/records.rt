@@ -1,6 +1,6 @@
 ghost use Rattle.std.specs.Prelude.{◌≡◌, ◌<◌, ◌^◌, ◌++◌, map, OnOk, IfOk};
 ghost use Rattle.c_tree.specs.View.{program_of};
-ghost use Rattle.c_shapes.specs.ShapeOf.{shapes_of_functions, names_of_functions, candidate_places};
+ghost use Rattle.c_shapes.specs.ShapeOf.{shapes_of_functions, names_of_functions, taken_calls, candidate_places};
 ghost use Rattle.call_graph.specs.Calls.{AreCallsOf};
 ghost use Rattle.flow_graph.specs.View.{shapes_in};
 ghost use Rattle.flow_model.specs.Order.{silent_order, sys_order};
@@ -10,10 +10,10 @@ ghost use Rattle.flow_graph.specs.Places.{call_of};
 ghost use Rattle.flow_graph.specs.SiteEdges.{site_edges, site_edge_order};
 
 use crate::candidates::add_calls;
-use crate::lists::lists_of;
+use crate::lists::{Lists, lists_of};
 use crate::model_functions::add_functions;
 use crate::shape::Shape;
-use crate::sites::sites_of;
+use crate::sites::{SiteEdge, sites_of};
 use crate::taken::taken_of;
 use c_tree::Program;
 use call_graph::Calls;
@@ -41,6 +41,30 @@ fn add_sys(builder: &mut ModelBuilder, edges: &[SysEdge]) -> Result<(), OutOfMem
     Ok(())
 }
 
+// A builder with the functions of these shapes, with these edges, and with the calls along these edges at sites.
+fn builder_with(
+    alloc: Global,
+    program: &Program,
+    calls: &Calls,
+    shapes: &[Shape],
+    taken: &[u32],
+    lists: &Lists,
+    sites: &[SiteEdge],
+) -> Result<ModelBuilder, OutOfMemory>
+    requires calls { AreCallsOf (program_of program.now) calls.now }
+    requires shapes { shapes_in shapes.now ≡ shapes_of_functions (program_of program.now) }
+    requires taken { taken.now ≡ taken_calls (program_of program.now) }
+    requires few { nodes_from 0 (shapes_in shapes.now) < 2 ^ 32 }
+    ensures { IfOk result (λ b. b ≡ record { functions = functions_from 0 (names_of_functions (program_of program.now)) (shapes_in shapes.now); silent = lists.now.silent.items; sys = lists.now.sys.items; calls = map (call_of (candidate_places (program_of program.now))) sites.now }) }
+{
+    let mut builder = ModelBuilder::new(alloc)?;
+    add_functions(&mut builder, alloc, program, taken, shapes)?;
+    add_silent(&mut builder, &lists.silent)?;
+    add_sys(&mut builder, &lists.sys)?;
+    add_calls(&mut builder, alloc, program, calls, taken, sites)?;
+    Ok(builder)
+}
+
 // A builder with the functions, the edges and the calls of a program that has these shapes.
 pub fn builder_of(
     alloc: Global,
@@ -56,10 +80,5 @@ pub fn builder_of(
     let taken = taken_of(alloc, program, calls)?;
     let lists = lists_of(alloc, shapes)?;
     let sites = sites_of(alloc, shapes)?;
-    let mut builder = ModelBuilder::new(alloc)?;
-    add_functions(&mut builder, alloc, program, &taken, shapes)?;
-    add_silent(&mut builder, &lists.silent)?;
-    add_sys(&mut builder, &lists.sys)?;
-    add_calls(&mut builder, alloc, program, calls, &taken, &sites)?;
-    Ok(builder)
+    builder_with(alloc, program, calls, shapes, &taken, &lists, &sites)
 }

@@ -14,7 +14,7 @@ use dm_base::OutOfMemory;
 use std::alloc::Global;
 
 // An edge that passes the call at a site. Such edges are ordered by their fields from the first on.
-#[derive(Clone, Copy, Debug, PartialEq, Eq, PartialOrd, Ord)]
+#[derive(Clone, Copy, PartialEq, Eq, PartialOrd, Ord)]
 pub struct SiteEdge {
     pub site: u32,
     pub from: u32,

@@ -1,15 +1,15 @@
 ghost use Rattle.std.specs.Prelude.{◌≡◌, IfOk};
-ghost use Rattle.c_tree.specs.View.{stmt_of, stmts_of, groups_of};
-ghost use Rattle.c_shapes.specs.Shape.{Cases};
-ghost use Rattle.c_shapes.specs.ShapeOf.{has_default, has_default_label, seq, seq_two};
+ghost use Rattle.c_tree.specs.View.{expr_of, maybe_of, stmt_of, stmts_of, groups_of};
+ghost use Rattle.c_shapes.specs.Shape.{Loop, Cases};
+ghost use Rattle.c_shapes.specs.ShapeOf.{has_default, has_default_label, seq, seq_two, alt as alt_of};
 ghost use Rattle.flow_graph.specs.View.{shape_of, parts_of};
 ghost use Rattle.flow_graph.specs.Labels.{is_default};
-ghost use Rattle.flow_graph.specs.Sited.{stmt_at, stmts_at, groups_at};
+ghost use Rattle.flow_graph.specs.Sited.{expr_at, maybe_at, stmt_at, stmts_at, groups_at};
 
 use crate::expressions::Reading;
 use crate::sequence::{add, do_of, for_of, in_turn, loop_of, one_of, push, two};
 use crate::shape::Shape;
-use c_tree::{TGroup, TLabel, TStmt};
+use c_tree::{TExpr, TGroup, TLabel, TStmt};
 use dm_base::OutOfMemory;
 use std::alloc::Global;
 
@@ -62,6 +62,36 @@ fn switch_of(
 }
 
 impl<'p> Reading<'p> {
+    // A choice with this test between two parts (C99 6.8.4.1).
+    fn choice(
+        &self,
+        alloc: Global,
+        test: &TExpr,
+        one: Shape,
+        other: Shape,
+    ) -> Result<Shape, OutOfMemory>
+        ensures { IfOk result (λ shape. shape_of shape ≡ seq_two (expr_at self.now.defined self.now.marks.now (expr_of test.now)) (alt_of (shape_of one) (shape_of other))) }
+    {
+        let first = self.expression(alloc, test)?;
+        one_of(alloc, first, one, other)
+    }
+
+    // A loop with this test and this step, after a part that is done first (C99 6.8.5.3).
+    fn rounds(
+        &self,
+        alloc: Global,
+        first: Shape,
+        test: &Option<TExpr>,
+        body: Shape,
+        step: &Option<TExpr>,
+    ) -> Result<Shape, OutOfMemory>
+        ensures { IfOk result (λ shape. shape_of shape ≡ seq_two (shape_of first) (Loop (maybe_at self.now.defined self.now.marks.now (maybe_of test.now)) (shape_of body) (maybe_at self.now.defined self.now.marks.now (maybe_of step.now)))) }
+    {
+        let test = self.maybe(alloc, test)?;
+        let step = self.maybe(alloc, step)?;
+        for_of(alloc, first, test, body, step)
+    }
+
     // The shape of a statement (C99 6.8).
     #[cycle(statements)]
     pub fn statement(&self, alloc: Global, s: &TStmt) -> Result<Shape, OutOfMemory>
@@ -73,14 +103,13 @@ impl<'p> Reading<'p> {
             TStmt::Expr(e) => self.expression(alloc, e),
             TStmt::Declare { init, .. } => self.initialisers(alloc, init),
             TStmt::If { test, yes, no } => {
-                let first = self.expression(alloc, test)?;
                 let one = self.statement(alloc, yes)?;
                 match no {
                     Some(no) => {
                         let other = self.statement(alloc, no)?;
-                        one_of(alloc, first, one, other)
+                        self.choice(alloc, test, one, other)
                     }
-                    None => one_of(alloc, first, one, Shape::Skip),
+                    None => self.choice(alloc, test, one, Shape::Skip),
                 }
             }
             TStmt::While { test, body } => {
@@ -100,10 +129,8 @@ impl<'p> Reading<'p> {
                 body,
             } => {
                 let first = self.statements(alloc, first)?;
-                let test = self.maybe(alloc, test)?;
-                let step = self.maybe(alloc, step)?;
                 let body = self.statement(alloc, body)?;
-                for_of(alloc, first, test, body, step)
+                self.rounds(alloc, first, test, body, step)
             }
             TStmt::Switch { on, groups } => {
                 let on = self.expression(alloc, on)?;

@@ -45,11 +45,9 @@ statement-returns-in_ok-body-in-For t c =
     let i = c.in-For in
     let first = c.in_ok-first-in-For.ensures ∙ ap (λ ss. seq (stmts_at n ms (stmts_of ss))) c.deref-in-For.ensures.value in
     let body = c.in_ok-body-in-For.ensures ∙ ap (λ s. stmt_at n ms (stmt_of s)) c.deref-in-For-2.ensures in
-    same_shape c.for_of.result (seq_two (shape_of c.in_ok-first-in-For.first) (Loop (shape_of c.in_ok-test-in-For.test) (shape_of c.in_ok-body-in-For.body) (shape_of c.in_ok-step-in-For.step))) (stmt_at n ms (stmt_of c.args.s.now))
-    (ap₂ (λ S T. seq_two S (Loop T (shape_of c.in_ok-body-in-For.body) (shape_of c.in_ok-step-in-For.step))) first c.in_ok-test-in-For.ensures
-    ∙ ap₂ (λ B P. seq_two (seq (stmts_at n ms (stmts_of i.first.items))) (Loop (maybe_at n ms (maybe_of i.test)) B P)) body c.in_ok-step-in-For.ensures
-    ∙ of_for n ms c.args.s.now i.first i.test i.step i.body i.is)
-    c.for_of.ensures
+    same_shape c.rounds.result (seq_two (shape_of c.in_ok-first-in-For.first) (Loop (maybe_at n ms (maybe_of i.test)) (shape_of c.in_ok-body-in-For.body) (maybe_at n ms (maybe_of i.step)))) (stmt_at n ms (stmt_of c.args.s.now))
+    (ap₂ (λ S B. seq_two S (Loop (maybe_at n ms (maybe_of i.test)) B (maybe_at n ms (maybe_of i.step)))) first body ∙ of_for n ms c.args.s.now i.first i.test i.step i.body i.is)
+    c.rounds.ensures
 
 pub statement-returns-in_ok-cases-in-Switch : goal.statement-returns-in_ok-cases-in-Switch
 statement-returns-in_ok-cases-in-Switch t c =
