@@ -119,7 +119,9 @@ declared-Function env d t i v ps is p =
 -- a rule for a unary operator, where its operand is fine
 unary_chosen : (env : Env) (at place op : ℕ) (chosen : Bool) (r : Checked TypedExpression) → (if chosen then on r (address at place) else on (value_at env place r) (unary_of_value at op)) ≡ on r (λ g. if chosen then address at place g else on (valued env place g) (unary_of_value at op))
 unary_chosen env at place op true (fine g) = refl
-unary_chosen env at place op chosen r = refl
+unary_chosen env at place op true (faulty f fs) = refl
+unary_chosen env at place op false (fine g) = refl
+unary_chosen env at place op false (faulty f fs) = refl
 
 pub unary_is : (env : Env) (at place op : ℕ) (r : Checked TypedExpression) → unary_rule env at place op r ≡ on r (λ g. unary_rule env at place op (fine g))
 unary_is env at place op r = unary_chosen env at place op (nat_eq op AMPERSAND) r
