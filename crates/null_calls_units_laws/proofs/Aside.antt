@@ -2,7 +2,7 @@
 use Rattle.std.proofs.Common.{◌≡◌, ℕ, Bool, true, false, ◌&&◌, if◌then◌else◌, [], ◌++◌, Option, Some, None, refl, ap, ap₂, sym, subst, ◌∙◌}
 use Rattle.dm_base.specs.declared.mode.Mode.TheVariants.{Plain}
 use Rattle.c_tree.specs.declared.value.IntType.{IntType}
-use Rattle.c_tree.specs.Tree.{CType, function, Program}
+use Rattle.c_tree.specs.Tree.{CType, function}
 use Rattle.c_syntax.specs.Tree.{Ident, Storage, Spec, Declarator, MaybeInit, no_parts, more_parts, Decl, decl, First, first_absent, first_expr, first_decl, Item, decl_item, function_item, Items, no_items, more_items}
 use Rattle.c_syntax.specs.Tree.{Stmt, block, only_if, if_else, while_loop, do_loop, for_loop, switch_on}
 use Rattle.c_syntax.specs.Tree.{BlockItems, no_block_items, block_decl, block_stmt, Stmts, no_stmts, more_stmts, Groups, no_groups, more_groups}
@@ -20,12 +20,11 @@ use Rattle.c_rules.specs.Statements.{Around, in_loop, in_switch, condition_at, t
 use Rattle.c_rules.specs.Functions.{declares_function, parameters_of, are_named, body_env, body_of, body_numbers, function_laid, defined_as, function_meaning, function_declared, items_of_body, few_variables}
 use Rattle.c_rules.specs.Items.{Output, defines, object_name, global_object, global_declared, global, without_init, declared_part, named_part, file_decl, behind_defined, function_named, item, behind_item, after_item, items}
 use Rattle.c_rules_laws.proofs.Holding.{Holds, on_holds, both_hold, all_three_hold, Any, anything, demand_holds, alone_holds, parts_first_holds, after_part as behind_any}
-use Rattle.c_rules_laws.proofs.RightDeclarations.{decl_whole}
+use Rattle.c_rules_laws.proofs.SitesOfStatements.{decl_keeps, first_keeps, params_keep}
 use Rattle.c_rules_laws.proofs.Names.{unreserved}
 use Rattle.null_calls_statements_laws.proofs.Scopes.{unadded}
 use Rattle.null_calls_units_laws.specs.AbstractCasts.{DeclNamesNoType, FirstNamesNoType, StmtNamesNoType, BlockNamesNoType, StmtsNameNoType, GroupsNameNoType, ItemNamesNoType, UnitNamesNoType}
 use Rattle.null_calls_units_laws.proofs.FunctionTags.{body_tags}
-use Rattle.null_calls_units_laws.proofs.FunctionItems.{parameters_functions}
 use Rattle.null_calls_units_laws.proofs.FileWritten.{form_whole}
 
 abbrev pub IsPlain : Env → Type 0
@@ -68,15 +67,11 @@ first_aside first_absent env e l b next = refl
 first_aside (first_expr x) env e l b next = always (tags_of_expr x ≡ tags_of_expr x) (first_of env b next (first_expr x)) refl
 first_aside (first_decl d) env e l b next = decl_aside d env e l b next
 
-no_program : Program
-no_program = record { structs = []; functions = []; main = 0; statics = [] }
-
 behind_plain : (d : Decl) (env : Env) (next : Next) → IsPlain env → IsPlain (behind_decl env next d)
-behind_plain d env next e = ap (λ w. w.mode) (decl_whole no_program [] d env next) ∙ e
+behind_plain d env next e = decl_keeps (λ v. v.whole.mode) (λ _ _ _. refl) d env next ∙ e
 
 first_plain : (f : First) (env : Env) (next : Next) → IsPlain env → IsPlain (behind_first env next f)
-first_plain (first_decl d) env next e = behind_plain d env next e
-first_plain f env next e = e
+first_plain f env next e = first_keeps (λ v. v.whole.mode) (λ _ _ _. refl) f env next ∙ e
 
 -- ## Statements
 
@@ -167,7 +162,7 @@ defined_aside : (env : Env) → IsPlain env → (b : Before) (place : ℕ) (d : 
 defined_aside env e b place d x is l (function t ts) =
     behind_any (λ _. tags_of_block true is ≡ tags_of_block false is) (few_variables env x d is) _ (λ _.
     parts_first_holds (λ _. tags_of_block true is ≡ tags_of_block false is) (body_of env b t d ts is) (both (demand (are_named (parameters_of d)) 3 place met) (body_of env b t d ts is) (λ _ q. function_laid env x t ts q)) (both_hold Any (λ _. tags_of_block true is ≡ tags_of_block false is) (λ _. tags_of_block true is ≡ tags_of_block false is) (demand (are_named (parameters_of d)) 3 place met) (body_of env b t d ts is) (λ _ q. function_laid env x t ts q) (anything (demand (are_named (parameters_of d)) 3 place met))
-    (block_aside is (body_env env d ts) (ap (λ w. w.mode) (parameters_functions (parameters_of d) ts (inside env) 0) ∙ e) l (record { breaks = false; continues = false; returns = t }) b (body_numbers d is))
+    (block_aside is (body_env env d ts) (params_keep (λ v. v.whole.mode) (λ _ _ _. refl) (parameters_of d) ts (inside env) 0 ∙ e) l (record { breaks = false; continues = false; returns = t }) b (body_numbers d is))
     (λ _ q _ h. always (tags_of_block true is ≡ tags_of_block false is) (function_laid env x t ts q) h)))
 defined_aside env e b place d x is l u = tt
 

@@ -5,9 +5,14 @@ use Rattle.c_rules.specs.Names.{Name, is_among}
 use Rattle.c_rules.specs.Conversions.{few_parts}
 use Rattle.c_rules_laws.specs.MadeTypes.{NotArray}
 use Rattle.c_rules_laws.specs.RightScopes.{IsThing}
-use Rattle.null_calls_units_laws.specs.Spelled.{IsSpelled, AreSpelled}
+use Rattle.null_calls_units_laws.specs.Spelled.{IsSpelled, AreSpelled, DeclaredTypesAreSpelled}
 use Rattle.null_calls_units_laws.specs.ClosedTypes.{AreClosed}
 use Rattle.null_calls_units_laws.specs.WrittenTypes.{Written, AllWritten, IsValueType}
+use Rattle.c_syntax.specs.Tree.{named}
+use Rattle.c_rules.specs.Expressions.{type_declared}
+use Rattle.c_rules_laws.proofs.Holding.{held}
+use Rattle.null_calls_units_laws.proofs.Declared.{type_written}
+use Rattle.null_calls_units_laws.proofs.Spellings.{spellings_declare}
 
 module _ (enums tags stood : List Name) where
   abbrev W : CType → Type 0
@@ -72,3 +77,11 @@ module _ (enums others tags stood more : List Name) (apart : (x : Name) → is_a
     pub all_written_later : (ts : CTypes) → AllWritten enums tags stood ts → AllWritten others tags more ts
     all_written_later no_types h = tt
     all_written_later (more_types t ts) h = (h.0, h.1, written_later t h.2, all_written_later ts h.3)
+
+-- it is written with the tags of the unit
+pub declared_types_are_spelled : DeclaredTypesAreSpelled
+declared_types_are_spelled env at here s d t x m e scalar =
+    let tags : List Name = env.whole.tags in
+    let written : Written env.enums tags tags t =
+    held (Written env.enums tags tags) (type_declared env at s d) t (type_written env.enums tags tags env (record { enums_are = refl; tags_are = refl }) at s d (record { numbered = m; stand = m })) e in
+    spellings_declare env here t (named here x) scalar (spelled env.enums tags tags t written)

@@ -1,25 +1,26 @@
 -- Declarations of temporaries count nothing but them.
-use Rattle.std.proofs.Common.{◌≡◌, ℕ, suc, ◌+◌, true, List, [], ◌∷◌, ◌++◌, length, Some, if◌then◌else◌, refl, ap, ◌∙◌, arith, append-nil}
+use Rattle.std.proofs.Common.{◌≡◌, ℕ, suc, ◌+◌, true, List, [], ◌∷◌, ◌++◌, length, Some, if◌then◌else◌, refl, ap, ◌∙◌, arith, append-nil, map}
 use Rattle.std.proofs.lemmas.Bool.{false≢true}
-use Rattle.c_tree.specs.Tree.{CType, integer}
+use Rattle.c_tree.specs.Tree.{CType, integer, Program}
 use Rattle.c_tree.specs.Tree as typed
 use Rattle.c_syntax.specs.Tree.{Ident, Spec, Declarator, named, no_init, Decl, BlockItems}
-use Rattle.c_rules.specs.Checked.{fine, on, met, gives, Checked, both, fails_with}
+use Rattle.c_rules.specs.Checked.{fine, on, met, gives, Checked, both, fails_with, faulty}
 use Rattle.c_rules.specs.Names.{Name, is_added}
 use Rattle.c_rules.specs.Types.{is_scalar}
 use Rattle.c_rules.specs.Scopes.{Env, a_local, with_name, meaning_or_unknown, Before}
 use Rattle.c_rules.specs.Declarators.{name_of, place_or, new_name}
 use Rattle.c_rules.specs.Objects.{Object, object_of, object_declared}
 use Rattle.c_rules.specs.Variables.{name_or_empty, Next, number_in, past_names, names_of_decl, names_of_block, calls_of_block}
-use Rattle.c_rules.specs.Blocks.{behind_named, behind_decl, held_by_object, held_by_named, held_by_decl, held_by_block, within_local, after_decl, StatementTree, bare, one_more, laid_variable, local_of, local_named, local_decl, is_given}
+use Rattle.c_rules.specs.Blocks.{behind_named, behind_decl, held_by_object, held_by_named, held_by_decl, held_by_block, within_local, after_decl, StatementTree, bare, one_more, laid_variable, local_of, local_named, local_decl, is_given, some_more}
 use Rattle.null_calls_rules.specs.SpelledTypes.{spec_of, declarator_of}
 use Rattle.null_calls_rules.specs.Temporaries.{Temporary, declaration_of, declared_before}
 use Rattle.null_calls_units_laws.specs.Spelled.{IsSpelled}
-use Rattle.null_calls_units_laws.specs.Declarations.{with_temporaries, AreNew}
+use Rattle.null_calls_units_laws.specs.Declarations.{with_temporaries, AreNew, type_of_temporary, behind_declarations, TemporariesAreDeclared}
 use Rattle.null_calls_units_laws.proofs.Spellings.{scalar_bare, spelled_name, spelled}
 use Rattle.null_calls_units_laws.proofs.Temporaries.{AllFree}
 use Rattle.c_rules.specs.Counts.{past}
 use Rattle.c_rules.specs.Expressions.{type_declared}
+use Rattle.c_rules.specs.Statements.{items_of_block}
 
 pub scalar_object : (env : Env) (place name : ℕ) (t : CType) → is_scalar t ≡ true → object_of env place name no_init t ≡ fine (record { seen = t; whole = t })
 scalar_object env place name (integer i) h = refl
@@ -119,3 +120,24 @@ plain_behind tags at a b (x ∷ xs) is f h n =
     ap (λ o. (past_names (record { plain = a; added = n }) (name_or_empty o ∷ rest)).plain) (spelled_name tags at x.ctype (named at (record { name = x.name; at = at })))
     ∙ (ap (λ c. (past_names (if c then record { plain = a; added = suc n } else record { plain = suc a; added = n }) rest).plain) f.0.added
     ∙ plain_behind tags at a b xs is f.1 h (suc n))
+
+on_same : {A : Type 0} (r : Checked A) → r ≡ on r (λ q. fine q)
+on_same (fine a) = refl
+on_same (faulty f fs) = refl
+
+put_before : (p : Program) (k : ℕ) (t : CType) (ts : List CType) (r : Checked (StatementTree typed.Stmts)) → both (fine (record { tree = typed.more_stmts (typed.declare k typed.no_inits) typed.no_stmts; plain = []; added = t ∷ [] })) (on r (λ q. fine (behind_declarations p (suc k) ts q))) (λ p q. fine (some_more p q)) ≡ on r (λ q. fine (behind_declarations p k (t ∷ ts) q))
+put_before p k t ts (fine q) = refl
+put_before p k t ts (faulty f fs) = refl
+
+pub temporaries_are_declared : TemporariesAreDeclared
+temporaries_are_declared p env a b at plain k [] is h =
+    let e : k ≡ k + 0 = omega arith in
+    ap (λ m. items_of_block env a b (record { plain = plain; added = m }) is) e ∙ on_same {A = StatementTree typed.Stmts} (items_of_block env a b (record { plain = plain; added = k + 0 }) is)
+temporaries_are_declared p env a b at plain k (x ∷ xs) is h =
+    let inner = with_name env x.name (a_local k x.ctype x.ctype) in
+    let rest = declared_before env.whole.tags at xs is in
+    let first : StatementTree typed.Stmts = record { tree = typed.more_stmts (typed.declare k typed.no_inits) typed.no_stmts; plain = []; added = x.ctype ∷ [] } in
+    let after = after_decl env b (record { plain = plain; added = k }) (declaration_of env.whole.tags at x) in
+    let past = past_names (record { plain = plain; added = k }) (names_of_decl (declaration_of env.whole.tags at x)) in
+    let e : suc k + length xs ≡ k + suc (length xs) = omega arith in
+    ap (λ d. both d (items_of_block (behind_decl env (record { plain = plain; added = k }) (declaration_of env.whole.tags at x)) a after past rest) (λ p q. fine (some_more p q))) (declares env plain k at x h.0 h.1 h.2 h.3 b) ∙ (ap (λ v. both (fine first) (items_of_block v a after past rest) (λ p q. fine (some_more p q))) (behind env plain k at x h.0 h.1 h.2 h.3) ∙ (ap (λ c. both (fine first) (items_of_block inner a c past rest) (λ p q. fine (some_more p q))) (counts_none env plain k at x h.0 h.1 h.2 h.3 b) ∙ (ap (λ m. both (fine first) (items_of_block inner a b m rest) (λ p q. fine (some_more p q))) (numbered env plain k at x h.0 h.1 h.2 h.3) ∙ (ap (λ r. both (fine first) r (λ p q. fine (some_more p q))) (temporaries_are_declared p inner a b at plain (suc k) xs is h.4) ∙ (put_before p k x.ctype (map type_of_temporary xs) (items_of_block (with_temporaries inner (suc k) xs) a b (record { plain = plain; added = suc k + length xs }) is) ∙ ap (λ m. on (items_of_block (with_temporaries inner (suc k) xs) a b (record { plain = plain; added = m }) is) (λ q. fine (behind_declarations p k (x.ctype ∷ map type_of_temporary xs) q))) e)))))

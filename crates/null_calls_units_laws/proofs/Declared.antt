@@ -1,11 +1,10 @@
 -- What specifiers and declarators give is written with tags that stand before.
-use Rattle.std.proofs.Common.{◌≡◌, ℕ, zero, suc, Bool, true, false, not, List, [], ◌∷◌, ◌++◌, Option, Some, None, is_some, option_map, if◌then◌else◌, sym, ap, ◌∙◌, subst, refl}
-use Rattle.std.specs.Prelude.{nat_le, slice_index_or, unwrap_or, bytes_eq}
+use Rattle.std.proofs.Common.{◌≡◌, ℕ, zero, true, false, not, List, [], ◌∷◌, ◌++◌, Option, Some, None, is_some, sym, ap, ◌∙◌, subst, refl}
+use Rattle.std.specs.Prelude.{nat_le, slice_index_or, unwrap_or}
 use Rattle.std.proofs.lemmas.Bool.{false≢true}
-use Rattle.std.proofs.lemmas.Slice.Eq.{bytes_eq-Decides}
 use Rattle.c_tree.specs.Tree.{CType, void, integer, array, struct, CTypes, more_types}
 use Rattle.c_tree.specs.Tree as typed
-use Rattle.c_syntax.specs.Tree.{Ident, Spec, Declarator, Params, no_params, more_params, MaybeInit, no_init, an_init, one, list}
+use Rattle.c_syntax.specs.Tree.{Ident, Spec, Declarator, Params, no_params, more_params, MaybeInit, no_init, an_init, one, list, Parts, more_parts}
 use Rattle.c_syntax.specs.Tree as syntax
 use Rattle.c_tree.specs.declared.value.IntType.TheVariants.{Char, Int}
 use Rattle.c_rules.specs.Names.{Name, number_among, is_among}
@@ -13,11 +12,14 @@ use Rattle.c_rules.specs.Types.{is_scalar, is_result, count, adjusted}
 use Rattle.c_rules.specs.Scopes.{Env, inside, tag_number}
 use Rattle.c_rules.specs.Checked.{Checked, fine, on}
 use Rattle.c_rules.specs.Conversions.{few_parts, complete}
-use Rattle.c_rules.specs.Tags.{tags_of_spec, tags_of_maybe, tags_of_declarator, tags_of_params}
+use Rattle.c_rules.specs.Tags.{tags_of_spec, tags_of_maybe, tags_of_declarator, tags_of_params, tags_of_maybe_init, tags_of_parts}
 use Rattle.c_rules.specs.Declarators.{name_of, place_or, type_of_spec, within_parts, pointer_to, array_of, function_of, parameter_of, new_name, with_name_demands, behind_parameter}
 use Rattle.c_rules.specs.Expressions.{declared, size_in, parameters, type_declared}
 use Rattle.c_rules.specs.Initialisers.{text_of, text_fits, count_inits}
 use Rattle.c_rules.specs.Objects.{Object, sized_by_one, sized_by, with_size, of_known_size, object_of, object_declared}
+use Rattle.std.proofs.lemmas.Bool.{not-true}
+use Rattle.std.proofs.lemmas.Option.{get_or_from_slice_get}
+use Rattle.c_rules_laws.proofs.UnitTable.{name_at}
 use Rattle.null_calls_units_laws.specs.Spelled.{AreAmong, is_pointee}
 use Rattle.c_rules_laws.proofs.Holding.{Holds, on_holds, both_hold, Any, anything, demand_holds, behind_demand, after_part}
 use Rattle.null_calls_units_laws.specs.WrittenTypes.{Written, AllWritten}
@@ -36,22 +38,13 @@ pub among_both : (tags xs ys : List Name) → AreAmong tags xs → AreAmong tags
 among_both tags [] ys h k = k
 among_both tags (x ∷ xs) ys h k = (h.0, among_both tags xs ys h.1 k)
 
-pub found_after : (y x : Name) (ys : List Name) (c : Option ℕ) → (is_some c ≡ true → slice_index_or ys (unwrap_or c 0) [] ≡ x) → is_some (option_map suc c) ≡ true → slice_index_or (y ∷ ys) (unwrap_or (option_map suc c) 0) [] ≡ x
-found_after y x ys None f h = absurd (false≢true h)
-found_after y x ys (Some k) f h = f refl
-
-pub found_by : (y x : Name) (ys : List Name) (b : Bool) (c : Option ℕ) → bytes_eq y x ≡ b → (is_some c ≡ true → slice_index_or ys (unwrap_or c 0) [] ≡ x) → is_some (if b then Some 0 else option_map suc c) ≡ true → slice_index_or (y ∷ ys) (unwrap_or (if b then Some 0 else option_map suc c) 0) [] ≡ x
-found_by y x ys true c e f h = (bytes_eq-Decides y x).0 e
-found_by y x ys false c e f h = found_after y x ys c f h
-
 -- a name at its number
 pub found : (tags : List Name) (x : Name) → is_among tags x ≡ true → slice_index_or tags (unwrap_or (number_among tags x) 0) [] ≡ x
-found [] x h = absurd (false≢true h)
-found (y ∷ ys) x h = found_by y x ys (bytes_eq y x) (number_among ys x) refl (found ys x) h
-
-pub is_not : (b : Bool) → not b ≡ true → b ≡ false
-is_not true h = absurd (false≢true h)
-is_not false h = refl
+found tags x h = by_number (number_among tags x) refl h
+  where
+    by_number : (o : Option ℕ) → number_among tags x ≡ o → is_some o ≡ true → slice_index_or tags (unwrap_or o 0) [] ≡ x
+    by_number None e k = absurd (false≢true k)
+    by_number (Some n) e k = get_or_from_slice_get tags n x [] (name_at tags x n e)
 
 module _ (enums tags stood : List Name) where
   abbrev W : CType → Type 0
@@ -74,6 +67,14 @@ module _ (enums tags stood : List Name) where
   pub both_tags : (xs ys : List Name) → AreKnownTags xs → AreKnownTags ys → AreKnownTags (xs ++ ys)
   both_tags xs ys h k = record { numbered = among_both tags xs ys h.numbered k.numbered; stand = among_both stood xs ys h.stand k.stand }
 
+  -- of a part of a declaration, and of those behind it
+  pub part_tags : (s : Spec) (d : Declarator) (m : MaybeInit) (ps : Parts) → AreKnownTags (tags_of_spec s ++ tags_of_parts (more_parts d m ps)) → AreKnownTags (tags_of_spec s ++ tags_of_declarator d) × AreKnownTags (tags_of_spec s ++ tags_of_parts ps)
+  part_tags s d m ps h =
+      let spec = first_tags (tags_of_spec s) (tags_of_parts (more_parts d m ps)) h in
+      let rest = rest_tags (tags_of_spec s) (tags_of_parts (more_parts d m ps)) h in
+      let others = rest_tags (tags_of_maybe_init m) (tags_of_parts ps) (rest_tags (tags_of_declarator d) (tags_of_maybe_init m ++ tags_of_parts ps) rest) in
+      (both_tags (tags_of_spec s) (tags_of_declarator d) spec (first_tags (tags_of_declarator d) (tags_of_maybe_init m ++ tags_of_parts ps) rest), both_tags (tags_of_spec s) (tags_of_parts ps) spec others)
+
   -- where these are the enums, and the tags by their numbers
   pub record HasTags (env : Env) : Type 0 where
     pub enums_are : env.enums ≡ enums
@@ -87,7 +88,7 @@ module _ (enums tags stood : List Name) where
 
   spec_written : (env : Env) → HasTags env → (at : ℕ) (s : Spec) → AreKnownTags (tags_of_spec s) → Holds W (type_of_spec env at s)
   spec_written env w at (syntax.struct x) h =
-      demand_holds W (not (is_among env.enums x.name)) 2 x.at (struct (tag_number env x.name)) (λ q. struct_written env.enums env.whole.tags w.enums_are w.tags_are x.name h.numbered.0 h.stand.0 (is_not (is_among env.enums x.name) q))
+      demand_holds W (not (is_among env.enums x.name)) 2 x.at (struct (tag_number env x.name)) (λ q. struct_written env.enums env.whole.tags w.enums_are w.tags_are x.name h.numbered.0 h.stand.0 (not-true (is_among env.enums x.name) q))
   spec_written env w at (syntax.enum x) h = demand_holds W (is_among env.enums x.name) 1 at (integer Int) (λ _. tt)
   spec_written env w at s h = tt
 

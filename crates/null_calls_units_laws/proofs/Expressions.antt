@@ -14,19 +14,19 @@ use Rattle.c_tree.specs.Operands.{IsResult}
 use Rattle.c_shapes.specs.Mentions.{Mention, Calls, Direct, Through, mentions_of_program, Callee as Shape}
 use Rattle.c_shapes.specs.CallGraph.{is_marked, reaches, callee_at}
 use Rattle.c_syntax.specs.Tree.{Expr, a_name, an_int, a_char, a_str, comma, sizeof_type, cast, call, member, postfix, prefix, unary, index, binary, assign, conditional, Exprs, no_exprs, more_exprs}
-use Rattle.c_syntax.specs.Tree.{Postfix, post_increment, post_decrement, pre_increment, pre_decrement, sizeof, Access, dot, arrow, Infix, and, or, operator}
-use Rattle.c_rules.specs.Checked.{Checked, fine, faulty, on, both, all_three}
+use Rattle.c_syntax.specs.Tree.{Postfix, post_increment, post_decrement, pre_increment, pre_decrement, sizeof, Access, dot, arrow}
+use Rattle.c_rules.specs.Checked.{Checked, fine, on, both, all_three}
 use Rattle.c_rules.specs.Names.{Name}
 use Rattle.c_rules.specs.Limits.{most_calls}
 use Rattle.c_rules.specs.Types.{is_scalar, count}
-use Rattle.c_rules.specs.Scopes.{Env, Binding, Meaning, a_static, a_function, unknown, Context, evaluated, sized, in_context, Before, nothing_before, binding_of}
+use Rattle.c_rules.specs.Scopes.{Env, Meaning, a_static, a_function, unknown, Context, evaluated, sized, in_context, Before, nothing_before, binding_of}
 use Rattle.c_rules.specs.Counts.{place_of, calls, after, after_designator}
 use Rattle.c_rules.specs.TypedExpression.{TypedExpression, tree_of}
 use Rattle.c_rules.specs.Conversions.{valued}
-use Rattle.c_rules.specs.PrimaryExpressions.{used, object_number, function_number, function_value_number, meant, bound, integer_expression, string_fits}
+use Rattle.c_rules.specs.PrimaryExpressions.{used, object_number, function_number, function_value_number, meant, integer_expression, string_fits}
 use Rattle.c_rules.specs.PostfixExpressions.{Designator, direct, through, Callee, site_in, site_of, callee_of_type, callee_through, callee_by_value, called, member_of}
 use Rattle.c_rules.specs.UnaryExpressions.{address, indirection, unary_of_value, size_of, size_of_expression, size_of_type, cast_of, null_cast}
-use Rattle.c_rules.specs.BinaryExpressions.{operator_of_code, sum, choice}
+use Rattle.c_rules.specs.BinaryExpressions.{sum, choice}
 use Rattle.c_rules.specs.Assignments.{assignable, assignment_by, step, comma_of}
 use Rattle.c_rules.specs.Declarators.{place_of_type, is_void_pointer}
 use Rattle.c_rules.specs.Expressions.{value_at, place_at, callee, access, after_operand, unary_rule, infix_rule, cast_rule, tree, trees, type_named, value}
@@ -35,8 +35,9 @@ use Rattle.null_calls_rules.specs.MarkedCalls.{Called, Sites, sites_of, called_t
 use Rattle.null_calls_counts_laws.specs.Counts.{IsName, IsDesignator, AreNamed, AllNamed}
 use Rattle.null_calls_statements_laws.specs.Tabled.{called_by, HasTypes, IsCalledAt, AreTabled, AllTabled}
 use Rattle.null_calls_statements_laws.proofs.TreeTypes.{ValueTyped, value_typed as trees_have_types}
-use Rattle.c_rules_laws.proofs.Holding.{Holds, held, holds_map, on_holds, both_hold, all_three_hold, Any, anything, demand_holds, after_part, if_holds, and_left}
+use Rattle.c_rules_laws.proofs.Holding.{Holds, fine_same, held, holds_map, on_holds, both_hold, all_three_hold, Any, anything, demand_holds, after_part, if_holds, and_left}
 use Rattle.c_rules_laws.proofs.MadeTypes.{result_is}
+use Rattle.c_rules_laws.proofs.Operators.{bound_holds, callee_holds}
 use Rattle.null_calls_rules.proofs.Places.{get_left}
 use Rattle.null_calls_units_laws.specs.CallsIn.{calls_in, all_calls}
 use Rattle.null_calls_units_laws.specs.ClosedTypes.{CalledTypeHas, CalleeHas}
@@ -45,9 +46,9 @@ use Rattle.null_calls_units_laws.specs.AbstractCasts.{NamesNoType, NameNoTypes}
 use Rattle.null_calls_units_laws.specs.Scopes.{IsWrittenScope}
 use Rattle.null_calls_units_laws.proofs.Closed.{written_closed}
 use Rattle.null_calls_units_laws.proofs.Kept.{CalledGood, CallsGood, AllGood}
-use Rattle.null_calls_units_laws.proofs.TypesOfExpressions.{callee_holds, callee_typed, value_typed}
+use Rattle.null_calls_units_laws.proofs.TypesOfExpressions.{callee_typed, value_typed}
 use Rattle.null_calls_units_laws.proofs.Tables.{Table, InTable, in_first, in_rest}
-use Rattle.c_rules_laws.proofs.GatheredOfTypedExpressions.{called_at, Gathers, AllGather, CalleeGathers, valued_gathered, called_gathered, callee_type_gathered, callee_through_gathered, member_gathered, address_gathered, indirection_gathered, unary_gathered, size_gathered, cast_of_gathered, null_cast_gathered, sum_gathered, operation_gathered, conjunction_gathered, disjunction_gathered, assignment_by_gathered, step_gathered, choice_gathered, comma_gathered}
+use Rattle.c_rules_laws.proofs.GatheredOfTypedExpressions.{called_at, Gathers, AllGather, CalleeGathers, valued_gathered, called_gathered, callee_type_gathered, callee_through_gathered, member_gathered, address_gathered, indirection_gathered, unary_gathered, size_gathered, cast_of_gathered, null_cast_gathered, sum_gathered, infix_gathered, assignment_by_gathered, step_gathered, choice_gathered, comma_gathered}
 use Rattle.c_rules_laws.specs.ConstantForm.{IsConst}
 
 -- what a call has
@@ -122,11 +123,6 @@ module _ (T : Table) where
   unary_tells X env at place o r h =
       if_holds (Tells X) (nat_eq o AMPERSAND) _ _ (one_tells X r (address at place) h (λ g xs s. address_gathered all_calls at place xs g s)) (one_tells X (value_at env place r) (unary_of_value at o) (value_tells X env place r h) (λ g xs s. unary_gathered all_calls at o xs g s))
 
-  infix_tells : (env : Env) (at : ℕ) (o : Infix) (a b : TypedExpression) (xs ys : List Mention) → Gathers all_calls xs a → Gathers all_calls ys b → Holds (Gathers all_calls (xs ++ ys)) (infix_rule env at o a b)
-  infix_tells env at and a b xs ys g h = conjunction_gathered all_calls xs ys at a b g h
-  infix_tells env at or a b xs ys g h = disjunction_gathered all_calls xs ys at a b g h
-  infix_tells env at (operator code) a b xs ys g h = operation_gathered all_calls xs ys env at (operator_of_code code) a b g h
-
   cast_tells : (X : Type 0) (to_null : Bool) (at : ℕ) (t : Checked CType) (r : Checked TypedExpression) → Holds (Tells X) r → Holds (Tells X) (cast_rule to_null at t r)
   cast_tells X true at t r h = one_tells X r (null_cast at) h (λ g xs s. null_cast_gathered all_calls at xs g s)
   cast_tells X false at t r h =
@@ -137,10 +133,6 @@ module _ (T : Table) where
   meant_tells env at x (a_function t d) = after_part (Gathers all_calls []) (function_value_number env at x) _ (λ _. (refl, λ _. refl))
   meant_tells env at x (unknown f fs) = tt
   meant_tells env at x m = (refl, λ _. refl)
-
-  bound_tells : (env : Env) (at : ℕ) (x : Name) (o : Option Binding) → Holds (Gathers all_calls []) (bound env at x o)
-  bound_tells env at x None = tt
-  bound_tells env at x (Some b) = meant_tells env at x b.means
 
   integer_tells : (n : ℕ) (u : Bool) → Gathers all_calls [] (integer_expression n u)
   integer_tells n u = integer_cases (Gathers all_calls []) n u (λ _. (refl, λ _. refl)) (refl, λ _. refl)
@@ -170,7 +162,7 @@ module _ (p : Program) where
   -- what is called has its types
   callee_right : (enums tags stood : List Name) (env : Env) → IsWrittenScope p enums tags stood env → (at : ℕ) (d : Expr) (r : Checked TypedExpression) → Holds ValueTyped r → Holds Right (callee env at d r)
   callee_right enums tags stood env w at d r h =
-      callee_holds Right env at d r (by_value_right at r h) (λ place x b t k _ e q. used_right env.context w.runs place (function_number env x) t (λ n f. w.functions x b t k n e q f))
+      callee_holds (λ _. Right) env at d r (by_value_right at r h) (λ place x b t k e q. used_right env.context w.runs place (function_number env x) t (λ n f. w.functions x b t k n e q f))
 
 abbrev IsDirect : Designator → Type 0
 IsDirect (direct n) = Unit {0}
@@ -180,13 +172,9 @@ no_direct : (P : Type 0) (at : ℕ) (e : typed.Expr) (t : CType) → Holds (λ f
 no_direct P at e (pointer (function t ts)) = λ k. absurd k
 no_direct P at e t = tt
 
-whatever : {A : Type 0} (P : A → Type 0) (r : Checked A) → ((a : A) → P a) → Holds P r
-whatever P (fine a) h = h a
-whatever P (faulty f fs) h = tt
-
 -- what is called directly is named
 named_directly : (env : Env) (at : ℕ) (d : Expr) (r : Checked TypedExpression) → Holds (λ f. IsDirect f.designator → IsName d) (callee env at d r)
-named_directly env at (a_name place x) r = whatever (λ f. IsDirect f.designator → Unit {0}) (callee env at (a_name place x) r) (λ f k. tt)
+named_directly env at (a_name place x) r = holds_map Any (λ f. IsDirect f.designator → Unit {0}) (λ _ _ _. tt) (callee env at (a_name place x) r) (anything (callee env at (a_name place x) r))
 named_directly env at d r = after_part (λ f. IsDirect f.designator → IsName d) r (callee_by_value at) (λ g. no_direct (IsName d) at (tree_of g) g.ctype)
 
 -- ## What the instrumenter knows of a call
@@ -260,16 +248,13 @@ module _ (p : Program) (enums tags stood : List Name) where
 
   callee_tells : (env : Env) (b : Before) (at : ℕ) (d : Expr) (r : Checked TypedExpression) → Holds (Tells T (Passes env b d)) r → Holds (CalleeTells (Passes env b d)) (callee env at d r)
   callee_tells env b at d r h =
-      callee_holds (CalleeTells (Passes env b d)) env at d r (by_value_tells (Passes env b d) at r h)
-      (λ place x c t k q _ _. after_part (CalleeTells (Passes env b d)) (used env.context place (function_number env x)) (callee_of_type place t)
-      (λ n. holds_map (CalleeGathers all_calls []) (CalleeTells (Passes env b d)) (λ f s. ([], s, λ _. subst (Passes env b) (sym q) (tt, tt, tt))) (callee_of_type place t n) (callee_type_gathered all_calls place t n)))
+      callee_holds (λ e. CalleeTells (Passes env b e)) env at d r (by_value_tells (Passes env b d) at r h)
+      (λ place x c t k _ _. after_part (CalleeTells (Passes env b (a_name place x))) (used env.context place (function_number env x)) (callee_of_type place t)
+      (λ n. holds_map (CalleeGathers all_calls []) (CalleeTells (Passes env b (a_name place x))) (λ f s. ([], s, λ _. (tt, tt, tt))) (callee_of_type place t n) (callee_type_gathered all_calls place t n)))
 
   site_is : (c : Context) → c ≡ evaluated → (m : Mode) → m ≡ Plain → (n at : ℕ) → Holds (λ k. (k ≡ n) × (n < 10000)) (site_in c (most_calls m) n at)
   site_is evaluated e Plain f n at = demand_holds (λ k. (k ≡ n) × (n < 10000)) (nat_lt n 10000) 13 at n (λ q. (refl, (Decides-ltb n 10000).0 q))
   site_is c e m f n at = absurd (cc)
-
-  same_callee : (f g : Callee) → fine f ≡ fine g → f ≡ g
-  same_callee f g e = cc
 
   -- what is known of a call whose site has its callee in the table
   module _ (env : Env) (w : Scope env) (b : Before) (at : ℕ) (d : Expr) (f : Callee) (e : callee env at d (value_at env (place_of d) (tree env b d)) ≡ fine f) (entry : T (b.sites + calls d) ≡ Some (shape_of f.designator)) (low : b.sites + calls d < 10000) where
@@ -286,7 +271,7 @@ module _ (p : Program) (enums tags stood : List Name) where
     there = ap (marked_of p) entry ∙ entry_of p f.designator f.returns f.parameters types
 
     called_there : (g : Callee) → callee env at d r ≡ fine g → IsCalledAt p sites (b.sites + calls d) g
-    called_there g q = subst (IsCalledAt p sites (b.sites + calls d)) (same_callee f g (sym e ∙ q)) (record { entry = there; types = types; result = result_of p enums tags stood f.designator f.returns f.parameters has })
+    called_there g q = subst (IsCalledAt p sites (b.sites + calls d)) (fine_same f g (sym e ∙ q)) (record { entry = there; types = types; result = result_of p enums tags stood f.designator f.returns f.parameters has })
 
     named_there : IsDesignator (sites (b.sites + calls d)) d
     named_there = subst (λ o. IsDesignator o d) (sym there) (designator_of p f.designator f.returns f.parameters d (held (λ f. IsDirect f.designator → IsName d) (callee env at d r) f (named_directly env at d r) e))
@@ -316,7 +301,7 @@ module _ (p : Program) (enums tags stood : List Name) where
 
   mutual
     pub tree_passes : (x : Expr) (env : Env) → Scope env → (b : Before) → NamesNoType x → Holds (Tells T (Passes env b x)) (tree env b x)
-    tree_passes (a_name at x) env w b l = holds_map (Gathers all_calls []) (Tells T (Passes env b (a_name at x))) (λ g s. none_tells T (Passes env b (a_name at x)) g (tt, tt, tt) s) (tree env b (a_name at x)) (bound_tells T env at x (binding_of env x))
+    tree_passes (a_name at x) env w b l = holds_map (Gathers all_calls []) (Tells T (Passes env b (a_name at x))) (λ g s. none_tells T (Passes env b (a_name at x)) g (tt, tt, tt) s) (tree env b (a_name at x)) (bound_holds (Gathers all_calls []) env at x (binding_of env x) (λ c _. meant_tells T env at x c.means))
     tree_passes (an_int at n u) env w b l = none_tells T (Passes env b (an_int at n u)) (integer_expression n u) (tt, tt, tt) (integer_tells T n u)
     tree_passes (a_char at c) env w b l = (λ _. refl, λ _. (tt, tt, tt))
     tree_passes (a_str at s) env w b l = after_part (Tells T (Passes env b (a_str at s))) (string_fits env.context at b.cells (suc (length s))) _ (λ _. (λ _. refl, λ _. (tt, tt, tt)))
@@ -344,7 +329,7 @@ module _ (p : Program) (enums tags stood : List Name) where
         (λ g xs s. indirection_gathered all_calls at xs g s)
     tree_passes (binary at o e f) env w b l =
         two_tell T (Passes env b e) (Passes env (after b e) f) (Passes env b (binary at o e f)) (value_at env (place_of e) (tree env b e)) (value_at env (place_of f) (tree env (after b e) f)) (infix_rule env at o) (λ x y. ((x.0, y.0), (x.1, y.1), (x.2, y.2)))
-        (value_tells T (Passes env b e) env (place_of e) (tree env b e) (tree_passes e env w b l.0)) (value_tells T (Passes env (after b e) f) env (place_of f) (tree env (after b e) f) (tree_passes f env w (after b e) l.1)) (λ g h xs ys s t. infix_tells T env at o g h xs ys s t)
+        (value_tells T (Passes env b e) env (place_of e) (tree env b e) (tree_passes e env w b l.0)) (value_tells T (Passes env (after b e) f) env (place_of f) (tree env (after b e) f) (tree_passes f env w (after b e) l.1)) (λ g h xs ys s t. infix_gathered all_calls xs ys env at o g h s t)
     tree_passes (assign at o e f) env w b l =
         two_tell T (Passes env b e) (Passes env (after b e) f) (Passes env b (assign at o e f)) (place_at (place_of e) (tree env b e)) (value_at env (place_of f) (tree env (after b e) f)) (assignment_by env at o) (λ x y. ((x.0, y.0), (x.1, y.1), (x.2, y.2)))
         (place_tells T (Passes env b e) (place_of e) (tree env b e) (tree_passes e env w b l.0)) (value_tells T (Passes env (after b e) f) env (place_of f) (tree env (after b e) f) (tree_passes f env w (after b e) l.1)) (λ g h xs ys s t. assignment_by_gathered all_calls xs ys env at o g h s t)

@@ -25,7 +25,7 @@ use Rattle.null_calls_counts_laws.specs.Statements.{BlockNamed}
 use Rattle.null_calls_statements_laws.specs.Statements.{BlockTabled}
 use Rattle.c_rules_laws.specs.Lexical.{IsStmtLexical, AreItemsLexical, IsItemLexical, IsUnitLexical}
 use Rattle.c_rules_laws.specs.RightScopes.{MeaningRight}
-use Rattle.c_rules_laws.proofs.Holding.{held, first_fine, on_fine, demand_fine, Holds, both_hold, Any, anything, after_part as behind_any}
+use Rattle.c_rules_laws.proofs.Holding.{Each, held, first_fine, on_fine, demand_fine, Holds, both_hold, Any, anything, after_part as behind_any}
 use Rattle.c_rules_laws.proofs.FileScopes.{IsFileRight, Follows, follows_on}
 use Rattle.c_rules_laws.proofs.FileItems.{definition_step, form_step, tags_step, items_step}
 use Rattle.c_rules_laws.proofs.UnitScopes.{IsTable, scope_right}
@@ -101,8 +101,7 @@ item_sites i e w b c l h = none_more b.sites b.sites refl
 module _ (p : Program) where
   -- the calls of these functions stand in the table of the program
   abbrev pub AllIn : List Function → Type 0
-  AllIn [] = Unit {0}
-  AllIn (f ∷ fs) = InTable (λ s. callee_at s (mentions_of_program p)) (calls_in_stmt f.body) × AllIn fs
+  AllIn fs = Each (λ (f : Function). InTable (λ s. callee_at s (mentions_of_program p)) (calls_in_stmt f.body)) fs
 
   pub all_in : (fs : List Function) → ((f : Function) → Contains fs f → InTable (λ s. callee_at s (mentions_of_program p)) (calls_in_stmt f.body)) → AllIn fs
   all_in [] h = tt

@@ -23,6 +23,7 @@ use Rattle.c_rules_laws.proofs.Names.{left, right, given_same, unreserved, name_
 use Rattle.c_rules_laws.proofs.Parts.{type_declared_leads}
 use Rattle.null_calls_statements_laws.specs.Tabled.{IsNullCall, AreNullCalls}
 use Rattle.null_calls_rules.proofs.Places.{get_left}
+use Rattle.c_rules_laws.proofs.Holding.{and_right}
 use Rattle.null_calls_units_laws.specs.FileScopes.{HasNullCalls, FilesBeside, files_beside}
 
 -- ## Lists of names
@@ -76,12 +77,8 @@ module _ (env : Env) (more : More) (p : AreUnreserved env.names) (q : MeanAlike 
 
   -- ## Functions
 
-  and_false : (t : Bool) → (t && false) ≡ true → ⊥
-  and_false true e = cc
-  and_false false e = cc
-
   type_more : (ts us : List CType) (i : ℕ) (t : CType) (o : Option CType) (d : Bool) → slice_get ts i ≡ o → (not d && is_given_type o t) ≡ true → (not d && is_given_type (slice_get (ts ++ us) i) t) ≡ true
-  type_more ts us i t None d h e = absurd (and_false (not d) e)
+  type_more ts us i t None d h e = absurd (true≢false (sym (and_right (not d) false e)))
   type_more ts us i t (Some u) d h e = ap (λ z. not d && is_given_type z t) (get_left ts us i (slice_get_within ts i u h) ∙ h) ∙ e
 
   as_given_more : (d : Bool) (t : CType) (o : Option ℕ) → given_as (left env) d t o ≡ true → given_as (right env more) d t o ≡ true

@@ -11,15 +11,16 @@ use Rattle.c_rules.specs.Conversions.{complete}
 use Rattle.c_rules.specs.Declarators.{name_of, place_or, new_name}
 use Rattle.c_rules.specs.Expressions.{type_declared}
 use Rattle.c_rules.specs.Objects.{Object, object_declared, with_size}
-use Rattle.c_rules.specs.Tags.{tags_of_spec, tags_of_declarator, tags_of_maybe_init, tags_of_parts, tags_of_decl, tags_of_declarators, tags_of_members, tags_of_enumerators, tags_of_stmt, tags_of_item}
+use Rattle.c_rules.specs.Tags.{tags_of_spec, tags_of_declarator, tags_of_parts, tags_of_decl, tags_of_declarators, tags_of_members, tags_of_enumerators, tags_of_stmt, tags_of_item}
 use Rattle.c_rules.specs.Functions.{declares_function, function_meaning, is_defined_by, function_declared, behind_function}
 use Rattle.c_rules.specs.Items.{Output, no_output, member_typed, new_member, member_named, member_declared, with_option, names_behind, members_declared, members, struct_laid, new_struct, struct_definition, struct_or_unknown, free_tag, enumerator_value, one_more_than, enumerator_meaning, behind_enumerator, enumerators, behind_enumerators, new_enum, behind_enum_tag, defines, global_object, global_declared, meaning_of_global, behind_global, behind_declared, behind_named_part, behind_file_part, after_file_part, behind_file_parts, behind_file_decl, behind_function_named, item, behind_by_form, behind_item}
 use Rattle.c_rules_laws.proofs.Holding.{Holds, held, on_holds, both_hold, Any, anything, demand_holds, after_part, first_fine, and_left, and_right}
+use Rattle.std.proofs.lemmas.Bool.{not-true}
 use Rattle.null_calls_units_laws.specs.ClosedTypes.{MeaningHas, AllHave, ScopeHas}
 use Rattle.null_calls_units_laws.specs.WrittenTypes.{Written}
 use Rattle.null_calls_units_laws.proofs.Closed.{written_later}
 use Rattle.null_calls_units_laws.proofs.FileNames.{other, among_past}
-use Rattle.null_calls_units_laws.proofs.Declared.{is_not, AreKnownTags, first_tags, rest_tags, both_tags, HasTags, type_written, with_size_written, ObjectWritten, object_written}
+use Rattle.null_calls_units_laws.proofs.Declared.{part_tags, AreKnownTags, first_tags, rest_tags, both_tags, HasTags, type_written, with_size_written, ObjectWritten, object_written}
 use Rattle.c_rules_laws.proofs.DistinctNames.{among_right as among_later}
 
 -- a scope at file scope of a plain unit
@@ -51,11 +52,8 @@ meant_has W (faulty f fs) h = tt
 pub scope_named : (W : CType → Type 0) (env : Env) (x : Name) (m : Meaning) → ScopeHas W env → MeaningHas W m → ScopeHas W (with_name env x m)
 scope_named W env x m w h = record { names = λ y b e. by_test (bytes_eq x y) y b e; members = w.members }
   where
-    same : (b c : Binding) → Some b ≡ Some c → b ≡ c
-    same b c e = cc
-
     by_test : (t : Bool) (y : Name) (b : Binding) → cond t (Some (record { name = x; depth = env.depth; means = m })) (lookup env.names y) ≡ Some b → MeaningHas W b.means
-    by_test true y b e = subst (λ c. MeaningHas W c.means) (same (record { name = x; depth = env.depth; means = m }) b e) h
+    by_test true y b e = subst (λ c. MeaningHas W c.means) (ap (λ o. unwrap_or o b) e) h
     by_test false y b e = w.names y b e
 
 -- ## More tags, and more enums
@@ -129,11 +127,8 @@ module _ (tags stood : List Name) where
   parts_file no_parts env w b at class s h = w
   parts_file (more_parts d m ps) env w b at class s h =
       let inner : Env = behind_file_part env b at class s d m in
-      let specs = first_tags env.enums tags stood (tags_of_spec s) (tags_of_declarator d ++ (tags_of_maybe_init m ++ tags_of_parts ps)) h in
-      let rest = rest_tags env.enums tags stood (tags_of_spec s) (tags_of_declarator d ++ (tags_of_maybe_init m ++ tags_of_parts ps)) h in
-      let here = both_tags env.enums tags stood (tags_of_spec s) (tags_of_declarator d) specs (first_tags env.enums tags stood (tags_of_declarator d) (tags_of_maybe_init m ++ tags_of_parts ps) rest) in
-      let others = both_tags env.enums tags stood (tags_of_spec s) (tags_of_parts ps) specs (rest_tags env.enums tags stood (tags_of_maybe_init m) (tags_of_parts ps) (rest_tags env.enums tags stood (tags_of_declarator d) (tags_of_maybe_init m ++ tags_of_parts ps) rest)) in
-      parts_file ps inner (part_file env w b at class s d m (name_of d) here) (after_file_part env b at class s d m) at class s (known env.enums inner.enums (tags_of_spec s ++ tags_of_parts ps) others)
+      let own = part_tags env.enums tags stood s d m ps h in
+      parts_file ps inner (part_file env w b at class s d m (name_of d) own.0) (after_file_part env b at class s d m) at class s (known env.enums inner.enums (tags_of_spec s ++ tags_of_parts ps) own.1)
 
   decl_file : (d : Decl) (env : Env) → File env → (b : Before) → AreKnownTags env.enums tags stood (tags_of_decl false d) → File (behind_file_decl env b d)
   decl_file (decl at class s ps) env w b h = parts_file ps env w b at class s h
@@ -225,7 +220,7 @@ new_enum_apart env (tag x) ts =
     let within : Bool = not (is_among ts x.name) in
     both_hold Any (λ _. (y : Ident) → tag x ≡ tag y → is_among env.tags y.name ≡ false) (λ _. (y : Ident) → tag x ≡ tag y → is_among env.tags y.name ≡ false) (free_tag env x) (demand (new && (apart && within)) 2 x.at met) (λ _ _. fine met) (anything (free_tag env x))
     (demand_holds (λ _. (y : Ident) → tag x ≡ tag y → is_among env.tags y.name ≡ false) (new && (apart && within)) 2 x.at met
-    (λ q y e. subst (λ z. is_among env.tags z.name ≡ false) (same y e) (is_not (is_among env.tags x.name) (and_left apart within (and_right new (apart && within) q)))))
+    (λ q y e. subst (λ z. is_among env.tags z.name ≡ false) (same y e) (not-true (is_among env.tags x.name) (and_left apart within (and_right new (apart && within) q)))))
     (λ _ _ _ k. k)
   where
     same : (y : Ident) → tag x ≡ tag y → x ≡ y

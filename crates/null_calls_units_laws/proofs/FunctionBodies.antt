@@ -22,7 +22,7 @@ use Rattle.null_calls_rules.specs.InstrumentedStatements as marked_statements
 use Rattle.null_calls_rules.specs.InstrumentedPrograms.{kept_of_stmts, stmts, declared_from, instrumented_function}
 use Rattle.null_calls_rules.specs.WithoutSites.{unsited_stmts, unsited_function}
 use Rattle.null_calls_units_laws.specs.Declarations.{type_of_temporary, with_temporaries, AreNew, behind_declarations}
-use Rattle.null_calls_units_laws.proofs.Declarations.{temporaries_are_declared}
+use Rattle.null_calls_units_laws.proofs.Counted.{temporaries_are_declared}
 use Rattle.c_rules_laws.specs.TypedAlike.{More, plain_scope, instrumented_scope, AreUnreserved, MeanAlike}
 use Rattle.null_calls_statements_laws.specs.Follow.{types_of}
 use Rattle.null_calls_counts_laws.specs.Counts.{Near}

@@ -1,19 +1,19 @@
 -- A definition of a function in the instrumented unit beside that in the plain one.
-use Rattle.std.proofs.Common.{◌≡◌, ℕ, suc, ◌+◌, ◌*◌, ◌≤◌, Bool, true, false, List, [], ◌∷◌, ◌++◌, map, length, Option, Some, None, refl, ap, sym, subst, ◌∙◌, arith}
-use Rattle.c_tree.specs.Tree.{CType, function, CTypes, more_types, list_of, Function, Program}
+use Rattle.std.proofs.Common.{◌≡◌, ℕ, ◌+◌, ◌*◌, ◌≤◌, Bool, true, false, List, [], ◌∷◌, ◌++◌, map, length, Option, Some, refl, ap, sym, subst, ◌∙◌, arith, replicate, slice_get, suc, None}
+use Rattle.c_tree.specs.Tree.{CType, function, CTypes, list_of, Function, Program, Static}
 use Rattle.c_tree.specs.Tree as typed
-use Rattle.c_syntax.specs.Tree.{Ident, Storage, Spec, Declarator, Params, more_params, Stmt, BlockItems, Item, function_item}
-use Rattle.c_rules.specs.Checked.{fine, on, demand, met, parts_first}
+use Rattle.c_syntax.specs.Tree.{Ident, Storage, Spec, Declarator, Stmt, BlockItems, Item, function_item, Params, no_params, more_params}
+use Rattle.c_rules.specs.Checked.{fine, on, demand, met, parts_first, Checked}
 use Rattle.c_rules.specs.Names.{Name, is_among}
-use Rattle.c_rules.specs.Scopes.{Env, inside, layout_of, Before}
+use Rattle.c_rules.specs.Scopes.{Env, inside, layout_of, Before, a_local}
 use Rattle.c_rules.specs.Counts.{past}
-use Rattle.c_rules.specs.Declarators.{name_of, place_or}
-use Rattle.c_rules.specs.Expressions.{type_declared}
+use Rattle.c_rules.specs.Declarators.{name_of, place_or, type_of_spec, parameter_of, with_name_demands, behind_parameter}
+use Rattle.c_rules.specs.Expressions.{type_declared, declared, parameters}
 use Rattle.c_rules.specs.Tags.{tags_of_spec, tags_of_declarator, tags_of_stmt, tags_of_block, tags_of_item}
-use Rattle.c_rules.specs.Variables.{names_of_block, first_numbers, calls_of_block}
+use Rattle.c_rules.specs.Variables.{names_of_block, first_numbers, calls_of_block, Next, past_names}
 use Rattle.c_rules.specs.Blocks.{StatementTree, held_by_block}
-use Rattle.c_rules.specs.Statements.{Around}
-use Rattle.c_rules.specs.Functions.{declares_function, parameters_of, are_named, count_params, with_parameter, with_parameters, body_env, body_of, function_laid, defined_as, held_by_typed, function_declared, items_of_body, few_variables}
+use Rattle.c_rules.specs.Statements.{Around, items_of_block}
+use Rattle.c_rules.specs.Functions.{declares_function, parameters_of, are_named, count_params, body_env, body_of, function_laid, defined_as, held_by_typed, function_declared, items_of_body, few_variables, with_parameter, with_parameters}
 use Rattle.c_rules.specs.Items.{Output, output_of_function, behind_defined, function_named, behind_function_named}
 use Rattle.null_calls_rules.specs.MarkedCalls.{Sites, sites_of}
 use Rattle.null_calls_rules.specs.Temporaries.{Temporary, declared_before}
@@ -22,16 +22,17 @@ use Rattle.null_calls_rules.specs.InstrumentedStatements as marked_statements
 use Rattle.null_calls_rules.specs.Instrumented as units
 use Rattle.null_calls_rules.specs.InstrumentedPrograms.{instrumented_function}
 use Rattle.null_calls_rules.specs.WithoutSites.{unsited_function}
+use Rattle.c_rules_laws.proofs.SitesOfStatements.{params_keep}
 use Rattle.null_calls_units_laws.specs.Spelled.{AreAmong}
-use Rattle.c_rules_laws.proofs.Leads.{first_fine, on_fine, fine_leads}
-use Rattle.c_rules_laws.proofs.Parts.{type_declared_leads}
+use Rattle.c_rules_laws.proofs.Leads.{first_fine, on_fine, fine_leads, Leads, same_leads, on_leads}
+use Rattle.c_rules_laws.proofs.Parts.{type_declared_leads, behind_beside}
 use Rattle.null_calls_statements_laws.specs.Follow.{types_of}
 use Rattle.null_calls_statements_laws.proofs.Numbers.{numbers_stay}
 use Rattle.null_calls_statements_laws.proofs.Nodes.{both_gives}
 use Rattle.null_calls_counts_laws.proofs.StatementTags.{tags_stay}
 use Rattle.null_calls_counts_laws.proofs.StatementCounts.{blocks_stay}
-use Rattle.null_calls_units_laws.specs.FileScopes.{FilesBeside, at_site}
-use Rattle.null_calls_units_laws.proofs.FileNames.{scopes_of, function_declared_leads, function_files}
+use Rattle.null_calls_units_laws.specs.FileScopes.{FilesBeside, at_site, HasNullCalls, files_beside}
+use Rattle.null_calls_units_laws.proofs.FileNames.{scopes_of, function_declared_leads, function_files, named_files}
 use Rattle.null_calls_units_laws.proofs.Items.{tags_files, files_tags}
 use Rattle.c_rules_laws.proofs.Holding.{held}
 use Rattle.c_rules_laws.proofs.UnitFunctions.{ParamsFit, type_fits}
@@ -41,22 +42,73 @@ use Rattle.null_calls_units_laws.proofs.Declared.{among_left, among_right, among
 use Rattle.null_calls_units_laws.specs.Functions.{HasFunctions, BodyFacts, NamedFacts, FunctionFacts, DefinitionsGo}
 use Rattle.null_calls_units_laws.proofs.Temporaries.{all_free}
 use Rattle.null_calls_units_laws.proofs.FunctionBodies.{BodyGoes, body_goes, temporaries_few, right_laid, right_function, laid_right, function_instrumented, temporaries_count, variables_right}
-use Rattle.null_calls_units_laws.proofs.Numbers.{plain_numbers}
-use Rattle.null_calls_units_laws.proofs.Parameters.{declared_names, body_files}
 use Rattle.null_calls_units_laws.proofs.FileWritten.{function_same}
 use Rattle.c_rules_laws.proofs.DistinctNames.{among_right as among_later}
 use Rattle.null_calls_units_laws.proofs.FunctionTags.{declared_stand, declared_aside, body_tags, is_in, among_front, among_itself, among_cases}
 use Rattle.null_calls_units_laws.proofs.Counted.{names_long}
+use Rattle.std.specs.Prelude.{option_map}
+use Rattle.std.proofs.lemmas.Option.{slice_get-map}
+use Rattle.std.proofs.lemmas.List.{length-replicate}
+use Rattle.c_rules.specs.PrimaryExpressions.{string_number}
+use Rattle.c_rules.specs.Units.{static_string}
+use Rattle.c_rules_laws.proofs.Places.{get_right}
+use Rattle.c_rules_laws.specs.Lexical.{AreItemsLexical}
+use Rattle.c_rules_laws.specs.RightScopes.{StringsIn}
+use Rattle.c_rules_laws.proofs.RightStatements.{StmtsRight, block_right}
+use Rattle.c_rules_laws.specs.TypedAlike.{More, TypedAlike, beside, AreUnreserved, MeanAlike}
+use Rattle.c_rules_laws.proofs.Names.{left, right}
+use Rattle.c_rules.proofs.ModeFunctions.{name_plain, PlainName, parameters_fine}
+pub use Rattle.c_rules.proofs.ModeFunctions.{PlainNames}
+
+pub inside_files : (e f : Env) → FilesBeside e f → FilesBeside (inside e) (inside f)
+inside_files e f (files_beside env w p q l) = files_beside (inside env) w p q (record { runs = l.runs; nulls = l.nulls; fresh = l.fresh; functions = l.functions; tags = l.tags })
+
+inside_beside : (e f : Env) → TypedAlike e f → TypedAlike (inside e) (inside f)
+inside_beside e f (beside env w p q) = beside (inside env) w p q
+
+names_plain : (e f : Env) → TypedAlike e f → (k : ℕ) (ps : Params) (ts : CTypes) → parameters e k ps ≡ fine ts → PlainNames ps
+names_plain e f (beside env w p m) k no_params ts g = tt
+names_plain e f (beside env w p m) k (more_params at s d ps) ts g =
+    let r : Checked CType = on (type_declared (left env) at s d) (parameter_of (place_or at d)) in
+    let q : Checked CType = on (type_declared (right env w) at s d) (parameter_of (place_or at d)) in
+    let l : Leads r q = on_leads (type_declared (left env) at s d) (type_declared (right env w) at s d) (parameter_of (place_or at d)) (parameter_of (place_or at d)) (type_declared_leads _ _ (beside env w p m) at s d) (λ t _. same_leads (parameter_of (place_or at d) t)) in
+    let h = first_fine (with_name_demands (left env) (name_of d) r) (parameters (behind_parameter (left env) k (name_of d) r) k ps) (λ t us. fine (typed.more_types t us)) ts g in
+    (name_plain env (name_of d) r h.0 h.2, names_plain (behind_parameter (left env) k (name_of d) r) (behind_parameter (right env w) k (name_of d) q) (behind_beside env w p m k (name_of d) r q h.0 l h.2) k ps h.1 h.3)
+
+parameter_files : (env : Env) (w : More) (p : AreUnreserved env.names) (q : MeanAlike env.names w.names) (l : HasNullCalls env w) (k : ℕ) (n : Option Ident) (t : CType) → PlainName n → FilesBeside (with_parameter (left env) k n t) (with_parameter (right env w) k n t)
+parameter_files env w p q l k None t u = files_beside env w p q l
+parameter_files env w p q l k (Some x) t u = named_files env w p q l x.name (fine (a_local k t t)) (fine (a_local k t t)) (a_local k t t) u refl refl
+
+parameters_files : (e f : Env) → FilesBeside e f → (k : ℕ) (ps : Params) (ts : CTypes) → PlainNames ps → FilesBeside (with_parameters e k ps ts) (with_parameters f k ps ts)
+parameters_files e f (files_beside env w p q l) k (more_params at s d ps) (typed.more_types t ts) u =
+    parameters_files (with_parameter (left env) k (name_of d) t) (with_parameter (right env w) k (name_of d) t) (parameter_files env w p q l k (name_of d) t u.0) (suc k) ps ts u.1
+parameters_files e f w k ps ts u = w
+
+pub declared_names : (e f : Env) → FilesBeside e f → (at : ℕ) (s : Spec) (d : Declarator) (u : CType) → declares_function d ≡ true → type_declared e at s d ≡ fine u → PlainNames (parameters_of d)
+declared_names e f w at s d u h g =
+    let k = on_fine (type_of_spec e at s) (λ t. declared e d t) u g in
+    let l = parameters_fine e d k.0 u h k.2 in
+    names_plain (inside e) (inside f) (inside_beside e f (scopes_of e f w)) 0 (parameters_of d) l.0 l.1
+
+pub body_files : (e f : Env) → FilesBeside e f → (d : Declarator) (ts : CTypes) → PlainNames (parameters_of d) → FilesBeside (body_env e d ts) (body_env f d ts)
+body_files e f w d ts u = parameters_files (inside e) (inside f) (inside_files e f w) 0 (parameters_of d) ts u
+
+-- a program that holds these strings from a number on
+module _ (k : ℕ) (ws : List (List ℕ)) where
+  abbrev holder : Program
+  holder = record { structs = []; functions = []; main = 0; statics = replicate k (static_string []) ++ map static_string ws }
+
+  holds : StringsIn holder [] k ws
+  holds j w e =
+      let n : length (replicate k (static_string [])) ≡ k = length-replicate {A = Static} k (static_string []) in
+      (static_string w, ap (λ c. slice_get (replicate k (static_string []) ++ map static_string ws) (c + j)) (sym n) ∙ (get_right (replicate k (static_string [])) (map static_string ws) j ∙ (slice_get-map static_string ws j ∙ ap (option_map static_string) e)), refl, refl)
+
+pub plain_numbers : (is : BlockItems) (env : Env) (a : Around) (b : Before) (next : Next) (q : StatementTree typed.Stmts) → AreItemsLexical is → items_of_block env a b next is ≡ fine q → (past_names next (names_of_block is)).plain ≡ next.plain + length q.plain
+plain_numbers is env a b next q l e =
+    let p : Program = holder (string_number env b) (held_by_block env next is) in
+    ap (λ n. n.plain) (held (StmtsRight p [] env a next (names_of_block is)) (items_of_block env a b next is) q (block_right p [] is env a b next l (holds (string_number env b) (held_by_block env next is))) e).numbers
 
 -- ## Scopes of bodies
-
-parameter_functions : (env : Env) (k : ℕ) (o : Option Ident) (t : CType) → (with_parameter env k o t).whole ≡ env.whole
-parameter_functions env k None t = refl
-parameter_functions env k (Some x) t = refl
-
-pub parameters_functions : (ps : Params) (ts : CTypes) (env : Env) (k : ℕ) → (with_parameters env k ps ts).whole ≡ env.whole
-parameters_functions (more_params at s d ps) (more_types t ts) env k = parameters_functions ps ts (with_parameter env k (name_of d) t) (suc k) ∙ parameter_functions env k (name_of d) t
-parameters_functions ps ts env k = refl
 
 -- ## Definitions
 
@@ -108,7 +160,7 @@ module _ (p : Program) (enums tags stood : List Name) (e f : Env) (w : FilesBesi
   typed_right = fine_leads (type_declared e at s d) (type_declared f at s d) (function t ts) (type_declared_leads e f (scopes_of e f w) at s d) typed_left
 
   whole_here : (body_env left_env d ts).whole.functions ≡ e.whole.functions
-  whole_here = ap (λ v. v.functions) (parameters_functions (parameters_of d) ts (inside left_env) 0)
+  whole_here = params_keep (λ v. v.whole.functions) (λ _ _ _. refl) (parameters_of d) ts (inside left_env) 0
 
   pub record DefinedGoes (left : Function) : Type 0 where
     pub right : Function

@@ -1,5 +1,5 @@
 -- The calls of initialisers that are fine stand at their sites.
-use Rattle.std.proofs.Common.{◌≡◌, ℕ, zero, suc, ◌+◌, ◌-◌, ◌≤◌, Bool, true, false, List, [], ◌∷◌, ◌++◌, map, length, replicate, append_assoc, nat_le, refl, ap, ap₂, sym, subst, ◌∙◌, arith}
+use Rattle.std.proofs.Common.{append-nil, ◌≡◌, ℕ, zero, suc, ◌+◌, ◌-◌, ◌≤◌, Bool, true, false, List, [], ◌∷◌, ◌++◌, map, length, replicate, append_assoc, nat_le, refl, ap, ap₂, sym, subst, ◌∙◌, arith}
 use Rattle.std.proofs.lemmas.Bool.{leb-true}
 use Rattle.c_tree.specs.declared.value.IntType.TheVariants.{Char}
 use Rattle.c_tree.specs.Tree.{CType, integer, pointer, array, Program}
@@ -39,11 +39,7 @@ stores_sites k [] xs h = sym h
 stores_sites k (g ∷ gs) xs h = ap₂ (λ x y. x ++ y) h.2.0 (stores_sites (suc k) gs h.1 h.3) ∙ sym h.4
 
 one_given : (xs : List Mention) (g : TypedExpression) → Gathers all_calls xs g → AllGather all_calls xs (g ∷ [])
-one_given xs g h = (xs, [], h, refl, sym (none xs))
-  where
-    none : (xs : List Mention) → xs ++ [] ≡ xs
-    none [] = refl
-    none (x ∷ xs) = ap (λ ys. x ∷ ys) (none xs)
+one_given xs g h = (xs, [], h, refl, sym (append-nil xs))
 
 zeros_silent : (ts : List CType) → AllGather all_calls [] (map typed_zero ts)
 zeros_silent [] = refl

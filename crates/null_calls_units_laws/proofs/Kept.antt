@@ -71,12 +71,6 @@ module _ (enums tags stood : List Name) where
   pub none_kept : {lo : ℕ} → Good lo 0 []
   none_kept = record { written = tt; sites = tt; differ = tt; few = omega arith; within = λ h. omega (arith, h) }
 
-  one_more : (site : ℕ) → site < 10000 → site ≤ 10000 → site + 1 ≤ 10000
-  one_more site h k = omega (arith, h)
-
-  low_site : (site : ℕ) → site < 10000 → site < limit
-  low_site site h = omega (arith, h)
-
   pub good_both : {lo m n : ℕ} (xs ys : List Temporary) → Good lo m xs → Good (lo + m) n ys → Good lo (m + n) (xs ++ ys)
   good_both {lo} {m} {n} xs ys h k = record {
     written = written_both enums tags stood xs ys h.written k.written;
@@ -159,15 +153,16 @@ module _ (enums tags stood : List Name) where
       (arguments_written site 0 ts h, arguments_at site 0 ts l few, arguments_differ site 0 ts l few, omega (arith, n, m), λ u. pointer_differs site 0 u ts l few))
 
   called_by : (site : ℕ) (wanted : Bool) (o : Option CType) (ts : CTypes) (t : CType) → CalledGood site (Some (record { pointer_type = o; returns = t; parameters = ts })) → Good site 1 (designator_kept site o ++ (arguments_kept site 0 ts ++ result_kept site wanted t))
-  called_by site wanted None ts t h = (let v = values_good site wanted ts t (is_kept wanted t) refl (low_site site h.5) h.4 h.1 h.2 h.3 (result_kept site wanted t) refl in let n = v.3 in record { written = v.0; sites = v.1; differ = v.2; few = omega (arith, n); within = one_more site h.5 })
+  called_by site wanted None ts t h = (let v = values_good site wanted ts t (is_kept wanted t) refl (let k = h.5 in omega (arith, k)) h.4 h.1 h.2 h.3 (result_kept site wanted t) refl in let n = v.3 in record { written = v.0; sites = v.1; differ = v.2; few = omega (arith, n); within = λ _. (let k = h.5 in omega (arith, k)) })
   called_by site wanted (Some u) ts t h =
-      let v = values_good site wanted ts t (is_kept wanted t) refl (low_site site h.5) h.4 h.1 h.2 h.3 (result_kept site wanted t) refl in
+      let k = h.5 in
+      let l : site < limit = omega (arith, k) in
+      let v = values_good site wanted ts t (is_kept wanted t) refl l h.4 h.1 h.2 h.3 (result_kept site wanted t) refl in
       let n = v.3 in
-      let l : site < limit = low_site site h.5 in
-      record { written = (h.0.0, h.0.1, v.0); sites = (at_site site 0 (record { name = designator_name site; ctype = u }) l (omega (arith, l)) (inl refl), v.1); differ = (v.4 u, v.2); few = omega (arith, n); within = one_more site h.5 }
+      record { written = (h.0.0, h.0.1, v.0); sites = (at_site site 0 (record { name = designator_name site; ctype = u }) l (omega (arith, l)) (inl refl), v.1); differ = (v.4 u, v.2); few = omega (arith, n); within = λ _. (let k = h.5 in omega (arith, k)) }
 
   called_good : (site : ℕ) (wanted : Bool) (o : Option Called) → CalledGood site o → Good site 1 (temporaries_where site wanted o)
-  called_good site wanted None h = record { written = tt; sites = tt; differ = tt; few = omega arith; within = one_more site h }
+  called_good site wanted None h = record { written = tt; sites = tt; differ = tt; few = omega arith; within = λ _. omega (arith, h) }
   called_good site wanted (Some c) h = called_by site wanted c.pointer_type c.parameters c.returns h
 
   module _ (sites : Sites) where

@@ -1,8 +1,5 @@
 pub mod NameLemmas
-pub mod Declarations
-pub mod SpelledDeclarations
 pub mod Spellings
-pub mod Bodies
 pub mod Closed
 pub mod Declared
 pub mod Expressions
@@ -11,7 +8,6 @@ pub mod Kept
 pub mod Statements
 pub mod Tables
 pub mod TypesOfExpressions
-pub mod TypesOfTypedExpressions
 pub mod FileNames
 pub mod ItemInitialisers
 pub mod Items
@@ -20,17 +16,13 @@ pub mod FunctionBodies
 pub mod Counted
 pub mod FunctionItems
 pub mod FunctionTags
-pub mod Numbers
-pub mod Parameters
 pub mod Temporaries
 pub mod Aside
 pub mod Facts
 pub mod FileWritten
-pub mod UnitItems
 pub mod Names
 pub mod Prototypes
 pub mod SpelledCasts
-pub mod Texts
 pub mod Units
 pub use Rattle.null_calls_counts_laws.proofs.ExpressionHeights
 pub use Rattle.null_calls_counts_laws.proofs.StatementHeights

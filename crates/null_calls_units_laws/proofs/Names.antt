@@ -18,7 +18,7 @@ use Rattle.null_calls_rules.specs.Instrumented as units
 use Rattle.null_calls_rules.specs.Instrumented.{calls_of_item}
 use Rattle.null_calls_units_laws.specs.Spelled.{AreAmong}
 use Rattle.null_calls_units_laws.proofs.FileNames.{other_name}
-use Rattle.c_rules_laws.proofs.Holding.{Holds, both_hold, Any, anything}
+use Rattle.c_rules_laws.proofs.Holding.{Holds, Each, each_both, both_hold, Any, anything}
 use Rattle.null_calls_units_laws.proofs.Declared.{among_left, among_right, among_both}
 use Rattle.c_rules_laws.proofs.DistinctNames.{new_kept, new_there}
 use Rattle.null_calls_units_laws.proofs.FunctionTags.{among_each, is_in, among_on, among_itself}
@@ -83,12 +83,7 @@ names_same sites tags (more_items i is) b =
 -- ## No function of the unit has a name that is reserved
 
 abbrev pub AllPlain : List Name → Type 0
-AllPlain [] = Unit {0}
-AllPlain (x ∷ xs) = (is_reserved x ≡ false) × AllPlain xs
-
-plain_both : (xs ys : List Name) → AllPlain xs → AllPlain ys → AllPlain (xs ++ ys)
-plain_both [] ys h k = k
-plain_both (x ∷ xs) ys h k = (h.0, plain_both xs ys h.1 k)
+AllPlain xs = Each (λ x. is_reserved x ≡ false) xs
 
 named_functions : (env : Env) → IsPlain env → (b : Before) (at : ℕ) (s : Spec) (d : Declarator) (body : Stmt) (k : Bool) (o : Option Ident) → Holds (λ _. AllPlain (name_or_empty o ∷ [])) (function_named env b at s d body k o)
 named_functions env e b at s d body true (Some x) =
@@ -103,7 +98,7 @@ pub functions_plain : (is : Items) (env : Env) → IsPlain env → (b : Before) 
 functions_plain no_items env e b = tt
 functions_plain (more_items i is) env e b =
     both_hold (λ _. AllPlain (functions_of_item i)) (λ _. AllPlain (functions_of is)) (λ _. AllPlain (functions_of (more_items i is))) (item env b i) (items (behind_item env b i) (after_item env b i) is) _
-    (item_plain i env e b) (functions_plain is (behind_item env b i) (ap (λ w. w.mode) (form_whole i env b) ∙ e) (after_item env b i)) (λ _ _ h k. plain_both (functions_of_item i) (functions_of is) h k)
+    (item_plain i env e b) (functions_plain is (behind_item env b i) (ap (λ w. w.mode) (form_whole i env b) ∙ e) (after_item env b i)) (λ _ _ h k. each_both (λ x. is_reserved x ≡ false) (functions_of_item i) (functions_of is) h k)
 
 pub none_reserved : (y : Name) (xs : List Name) → is_reserved y ≡ true → AllPlain xs → number_among xs y ≡ None
 none_reserved y [] r h = refl

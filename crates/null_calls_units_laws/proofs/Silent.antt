@@ -21,6 +21,7 @@ use Rattle.c_rules.specs.Initialisers.{Slots, copies, each, slots, capacity, tak
 use Rattle.c_rules_laws.proofs.Holding.{Holds, on_holds, both_hold, demand_holds, behind_demand, after_part, held, on_fine}
 use Rattle.c_rules_laws.specs.ConstantForm.{IsConst}
 use Rattle.c_rules_laws.proofs.SitesOfExpressions.{Span, Counted, value_counted}
+use Rattle.c_syntax.proofs.BackTokens.{ap_three}
 use Rattle.null_calls_units_laws.specs.FileScopes.{at_site}
 use Rattle.c_rules_laws.proofs.GatheredOfTypedExpressions.{Gathers, as_if_gathered}
 use Rattle.c_tree.specs.Sites.{all_sites}
@@ -94,10 +95,6 @@ no_second : (m n : ℕ) → m + n ≡ 0 → n ≡ 0
 no_second m n e = omega (arith, e)
 
 module _ (env : Env) where
-  three_alone : (at : ℕ) (c x y : Expr) (q q' r r' s s' : Checked TypedExpression) → q ≡ q' → r ≡ r' → s ≡ s'
-      → all_three (value_at env (place_of c) q) (value_at env (place_of x) r) (value_at env (place_of y) s) (choice at) ≡ all_three (value_at env (place_of c) q') (value_at env (place_of x) r') (value_at env (place_of y) s') (choice at)
-  three_alone at c x y q q' r r' s s' f g h = λ i. all_three (value_at env (place_of c) (f i)) (value_at env (place_of x) (g i)) (value_at env (place_of y) (h i)) (choice at)
-
   mutual
     tree_alone : (x : Expr) (b : Before) (n : ℕ) → calls x ≡ 0 → tree env (at_site b n) x ≡ tree env b x
     tree_alone (comma at es) b n e = ap (λ r. gives r comma_of) (trees_alone es b n e)
@@ -116,7 +113,7 @@ module _ (env : Env) where
         ap₂ (λ r s. both (place_at (place_of x) r) (value_at env (place_of y) s) (assignment_by env at op)) (tree_alone x b n (no_first (calls x) (calls y) e)) (tree_alone y (after b x) (n + calls x) (no_second (calls x) (calls y) e))
     tree_alone (conditional at c x y) b n e =
         let z : calls x + calls y ≡ 0 = no_second (calls c) (calls x + calls y) e in
-        three_alone at c x y (tree env (at_site b n) c) (tree env b c) (tree env (at_site (after b c) (n + calls c)) x) (tree env (after b c) x) (tree env (at_site (after (after b c) x) (n + calls c + calls x)) y) (tree env (after (after b c) x) y)
+        ap_three (λ q r s. all_three (value_at env (place_of c) q) (value_at env (place_of x) r) (value_at env (place_of y) s) (choice at))
         (tree_alone c b n (no_first (calls c) (calls x + calls y) e)) (tree_alone x (after b c) (n + calls c) (no_first (calls x) (calls y) z)) (tree_alone y (after (after b c) x) (n + calls c + calls x) (no_second (calls x) (calls y) z))
     tree_alone x b n e = refl
 

@@ -1,5 +1,5 @@
 -- The calls of declarations and statements that are fine stand at their sites.
-use Rattle.std.proofs.Common.{◌≡◌, ℕ, ◌+◌, Bool, true, false, cond, List, [], ◌∷◌, ◌++◌, append_assoc, Option, Some, None, refl, ap, sym, subst, ◌∙◌}
+use Rattle.std.proofs.Common.{unwrap_or, ◌≡◌, ℕ, ◌+◌, Bool, true, false, cond, List, [], ◌∷◌, ◌++◌, append_assoc, Option, Some, None, refl, ap, sym, subst, ◌∙◌}
 use Rattle.std.proofs.lemmas.Bool.{cond_both}
 use Rattle.std.specs.Prelude.{bytes_eq}
 use Rattle.c_tree.specs.declared.value.IntType.{IntType}
@@ -7,7 +7,7 @@ use Rattle.c_tree.specs.Tree.{CType, Program}
 use Rattle.c_tree.specs.Tree as typed
 use Rattle.c_tree.specs.Functions.{called_type}
 use Rattle.c_tree.specs.Operands.{promoted}
-use Rattle.c_shapes.specs.Mentions.{Mention}
+use Rattle.c_shapes.specs.Mentions.{Mention, mentions_of_program}
 use Rattle.c_syntax.specs.Tree.{Ident, Spec, Declarator, MaybeInit, Parts, no_parts, more_parts, Decl, decl, Expr, Maybe, absent, there, First, first_absent, first_expr, first_decl}
 use Rattle.c_syntax.specs.Tree.{Stmt, block, empty, evaluate, only_if, if_else, while_loop, do_loop, for_loop, switch_on, break_off, continue_on, return_from}
 use Rattle.c_syntax.specs.Tree.{BlockItems, no_block_items, block_decl, block_stmt, Stmts, no_stmts, more_stmts, Groups, no_groups, more_groups}
@@ -16,7 +16,7 @@ use Rattle.c_rules.specs.Names.{Name, is_added}
 use Rattle.c_rules.specs.Types.{is_scalar, is_void}
 use Rattle.c_rules.specs.Scopes.{Env, Binding, Meaning, a_local, a_function, unknown, inside, with_name, lookup, meaning_or_unknown, Before}
 use Rattle.c_rules.specs.Counts.{calls, calls_of_maybe, after, after_maybe}
-use Rattle.c_rules.specs.Tags.{tags_of_spec, tags_of_expr, tags_of_maybe, tags_of_declarator, tags_of_maybe_init, tags_of_parts, tags_of_decl, tags_of_first, tags_of_labels, tags_of_stmt, tags_of_block, tags_of_stmts, tags_of_groups}
+use Rattle.c_rules.specs.Tags.{tags_of_spec, tags_of_expr, tags_of_maybe, tags_of_declarator, tags_of_parts, tags_of_decl, tags_of_first, tags_of_labels, tags_of_stmt, tags_of_block, tags_of_stmts, tags_of_groups}
 use Rattle.c_rules.specs.TypedExpression.{TypedExpression, tree_of}
 use Rattle.c_rules.specs.Conversions.{Kind, an_integer, kind_of, as_if_assigned, condition}
 use Rattle.c_rules.specs.PrimaryExpressions.{function_number}
@@ -37,19 +37,21 @@ use Rattle.null_calls_statements_laws.specs.Tabled.{AreTabled}
 use Rattle.null_calls_statements_laws.specs.Initialisers.{MaybeInitTabled}
 use Rattle.null_calls_statements_laws.specs.Declarations.{NamedTabled, PartsTabled, DeclTabled, FirstTabled}
 use Rattle.null_calls_statements_laws.specs.Statements.{MaybeTabled, StmtTabled, BlockTabled, StmtsTabled, GroupsTabled}
-use Rattle.c_rules_laws.proofs.Holding.{Holds, holds_map, on_holds, both_hold, all_three_hold, Any, anything, demand_holds, alone_holds}
+use Rattle.c_rules_laws.proofs.Holding.{fine_same, Holds, holds_map, on_holds, both_hold, all_three_hold, Any, anything, demand_holds, alone_holds, held}
 use Rattle.null_calls_units_laws.specs.CallsIn.{calls_in_inits, calls_in, calls_in_maybe, calls_in_stmt, calls_in_stmts, calls_in_groups, all_calls}
 use Rattle.null_calls_units_laws.specs.ClosedTypes.{MeaningHas}
 use Rattle.null_calls_units_laws.specs.WrittenTypes.{Written}
 use Rattle.null_calls_units_laws.specs.AbstractCasts.{MaybeInitNamesNoType, PartsNameNoType, DeclNamesNoType, FirstNamesNoType, MaybeNamesNoType, NamesNoType, StmtNamesNoType, BlockNamesNoType, StmtsNameNoType, GroupsNameNoType}
 use Rattle.null_calls_units_laws.specs.Scopes.{IsWrittenScope, AreTemporaries}
 use Rattle.null_calls_units_laws.proofs.FileWritten.{scope_named}
-use Rattle.null_calls_units_laws.proofs.Declared.{AreKnownTags, first_tags, rest_tags, both_tags, HasTags, ObjectWritten, object_written}
+use Rattle.null_calls_units_laws.proofs.Declared.{part_tags, AreKnownTags, first_tags, rest_tags, HasTags, ObjectWritten, object_written}
 use Rattle.null_calls_units_laws.proofs.Kept.{none_kept, good_both, kept_good}
-use Rattle.null_calls_units_laws.proofs.Tables.{Table as CallTable, InTable, in_first, in_rest}
+use Rattle.null_calls_units_laws.proofs.Tables.{Table as CallTable, InTable, in_first, in_rest, body_in_table}
 use Rattle.null_calls_units_laws.proofs.Expressions.{Tells, Passes, T, value_passes}
 use Rattle.null_calls_units_laws.proofs.Initialisers.{CellsTell, MaybeInitPasses, stores_sites, local_passes}
 use Rattle.c_rules_laws.proofs.GatheredOfTypedExpressions.{Gathers, as_if_gathered, converted_gathered}
+use Rattle.c_shapes.specs.CallGraph.{callee_at}
+use Rattle.null_calls_units_laws.specs.Bodies.{BodiesAreTabled}
 
 -- ## Scopes
 
@@ -75,11 +77,8 @@ module _ (p : Program) (enums tags stood : List Name) where
     functions = λ y b t d f e q r. function_by (bytes_eq x y) y b t d f e q r;
   }
     where
-      same_binding : (b c : Binding) → Some b ≡ Some c → b ≡ c
-      same_binding b c e = cc
-
       function_by : (k : Bool) (y : Name) (b : Binding) (t : CType) (d : Bool) (f : ℕ) → cond k (Some (record { name = x; depth = env.depth; means = m })) (lookup env.names y) ≡ Some b → b.means ≡ a_function t d → function_number env y ≡ Some f → called_type p f ≡ Some t
-      function_by true y b t d f e q r = absurd (subst NoFunction (ap (λ c. c.means) (same_binding (record { name = x; depth = env.depth; means = m }) b e) ∙ q) n)
+      function_by true y b t d f e q r = absurd (subst NoFunction (ap (λ o. (unwrap_or o b).means) e ∙ q) n)
       function_by false y b t d f e q r = w.functions y b t d f e q r
 
   pub inside_scope : (env : Env) → Scope env → Scope (inside env)
@@ -100,19 +99,9 @@ module _ (p : Program) (enums tags stood : List Name) where
   named_behind env w next at s d m None k = w
   named_behind env w next at s d m (Some x) k = object_good (λ o. o.whole) (λ _ h. h.1) env (number_in next x.name) x (object_declared env at s d x m) (new_name env x) w (object_written enums tags stood env (scope_tags env w) at s d x m k)
 
-  declarator_tags : (s : Spec) (d : Declarator) (m : MaybeInit) (ps : Parts) → AreKnownTags enums tags stood (tags_of_spec s ++ (tags_of_declarator d ++ (tags_of_maybe_init m ++ tags_of_parts ps))) → AreKnownTags enums tags stood (tags_of_spec s ++ tags_of_declarator d)
-  declarator_tags s d m ps k =
-      both_tags enums tags stood (tags_of_spec s) (tags_of_declarator d) (first_tags enums tags stood (tags_of_spec s) (tags_of_declarator d ++ (tags_of_maybe_init m ++ tags_of_parts ps)) k)
-      (first_tags enums tags stood (tags_of_declarator d) (tags_of_maybe_init m ++ tags_of_parts ps) (rest_tags enums tags stood (tags_of_spec s) (tags_of_declarator d ++ (tags_of_maybe_init m ++ tags_of_parts ps)) k))
-
-  other_tags : (s : Spec) (d : Declarator) (m : MaybeInit) (ps : Parts) → AreKnownTags enums tags stood (tags_of_spec s ++ (tags_of_declarator d ++ (tags_of_maybe_init m ++ tags_of_parts ps))) → AreKnownTags enums tags stood (tags_of_spec s ++ tags_of_parts ps)
-  other_tags s d m ps k =
-      both_tags enums tags stood (tags_of_spec s) (tags_of_parts ps) (first_tags enums tags stood (tags_of_spec s) (tags_of_declarator d ++ (tags_of_maybe_init m ++ tags_of_parts ps)) k)
-      (rest_tags enums tags stood (tags_of_maybe_init m) (tags_of_parts ps) (rest_tags enums tags stood (tags_of_declarator d) (tags_of_maybe_init m ++ tags_of_parts ps) (rest_tags enums tags stood (tags_of_spec s) (tags_of_declarator d ++ (tags_of_maybe_init m ++ tags_of_parts ps)) k)))
-
   parts_behind : (ps : Parts) (env : Env) → Scope env → (next : Next) (at : ℕ) (s : Spec) → AreKnownTags enums tags stood (tags_of_spec s ++ tags_of_parts ps) → Scope (behind_parts env next at s ps)
   parts_behind no_parts env w next at s k = w
-  parts_behind (more_parts d m ps) env w next at s k = parts_behind ps (behind_part env next at s d m) (named_behind env w next at s d m (name_of d) (declarator_tags s d m ps k)) (past_part next d) at s (other_tags s d m ps k)
+  parts_behind (more_parts d m ps) env w next at s k = parts_behind ps (behind_part env next at s d m) (named_behind env w next at s d m (name_of d) (part_tags enums tags stood s d m ps k).0) (past_part next d) at s (part_tags enums tags stood s d m ps k).1
 
   decl_behind : (d : Decl) (env : Env) → Scope env → (next : Next) → AreKnownTags enums tags stood (tags_of_decl false d) → Scope (behind_decl env next d)
   decl_behind (decl at class s ps) env w next k = parts_behind ps env w next at s k
@@ -158,9 +147,6 @@ module _ (p : Program) (enums tags stood : List Name) where
       let told : InTable Table (calls_in_inits (stores_from 0 gs)) → X = λ z. h.2 (subst (InTable Table) (stores_sites 0 gs h.0 h.1) z) in
       cond_both {A = StatementTree typed.Stmt} (is_added x) (record { tree = typed.declare k (stores_from 0 gs); plain = []; added = t ∷ [] }) (record { tree = typed.declare k (stores_from 0 gs); plain = t ∷ []; added = [] }) (StmtTells X) (λ _. told) (λ _. told)
 
-  object_same : (o q : Object) → fine o ≡ fine q → o ≡ q
-  object_same o q e = cc
-
   named_passes : (env : Env) → Scope env → (b : Before) (next : Next) (at : ℕ) (s : Spec) (d : Declarator) (m : MaybeInit) (o : Option Ident) → Known (tags_of_spec s ++ tags_of_declarator d) → MaybeInitNamesNoType m → Holds (StmtTells (NamedPasses env b next at s d m o)) (local_named env b next at s d m o)
   named_passes env w b next at s d m None k l = tt
   named_passes env w b next at s d m (Some x) k l =
@@ -174,7 +160,7 @@ module _ (p : Program) (enums tags stood : List Name) where
           both_hold Any (StmtTells (NamedPasses env b next at s d m (Some x))) (StmtTells (NamedPasses env b next at s d m (Some x))) (new_name env x) (local_of inner b next x m o) (λ _ p. fine p) (anything (new_name env x))
           (on_holds (CellsTell p enums tags stood (MaybeInitPasses p enums tags stood inner b o.whole m)) (StmtTells (NamedPasses env b next at s d m (Some x))) (initialised_local inner b o.whole m) _ (local_passes p enums tags stood m inner z b o.whole l)
           (λ gs h. laid_tells (NamedPasses env b next at s d m (Some x)) x.name (number_in next x.name) o.whole gs
-          (h.0, h.1, λ t. (let y = h.2 t in ((λ q f. subst (λ v. MaybeInitTabled p (sites_of p) inner b v.whole m) (object_same o q (sym e ∙ f)) y.0), y.1, y.2)))))
+          (h.0, h.1, λ t. (let y = h.2 t in ((λ q f. subst (λ v. MaybeInitTabled p (sites_of p) inner b v.whole m) (fine_same o q (sym e ∙ f)) y.0), y.1, y.2)))))
           (λ _ c _ v. v)
       by_object (faulty f fs) e = both_hold Any (StmtTells (NamedPasses env b next at s d m (Some x))) (StmtTells (NamedPasses env b next at s d m (Some x))) (new_name env x) (faulty f fs) (λ _ p. fine p) (anything (new_name env x)) tt (λ _ c _ v. v)
 
@@ -184,7 +170,7 @@ module _ (p : Program) (enums tags stood : List Name) where
       let inner : Env = behind_part env next at s d m in
       let b1 : Before = after_part env b at s d m in
       both_hold (StmtTells (NamedPasses env b next at s d m (name_of d))) (StmtsTell (PartsPass inner b1 (past_part next d) at s ps)) (StmtsTell (PartsPass env b next at s (more_parts d m ps))) (local_part env b next at s d m) (local_parts inner b1 (past_part next d) at s ps) (λ p q. fine (one_more p q))
-      (named_passes env w b next at s d m (name_of d) (declarator_tags s d m ps k) l.0) (parts_pass ps inner (named_behind env w next at s d m (name_of d) (declarator_tags s d m ps k)) b1 (past_part next d) at s (other_tags s d m ps k) l.1)
+      (named_passes env w b next at s d m (name_of d) (part_tags enums tags stood s d m ps k).0 l.0) (parts_pass ps inner (named_behind env w next at s d m (name_of d) (part_tags enums tags stood s d m ps k).0) b1 (past_part next d) at s (part_tags enums tags stood s d m ps k).1 l.1)
       (λ q r. two_told (calls_in_stmt q.tree) (calls_in_stmts r.tree) (two_pass (kept_of_maybe_init (sites_of p) b.sites m) (kept_of_parts (sites_of p) (b.sites + calls_of_maybe_init m) ps)))
 
   abbrev DeclPasses : Env → Before → Next → Decl → Type 0
@@ -387,3 +373,11 @@ module _ (p : Program) (enums tags stood : List Name) where
         all_three_hold Any (StmtsTell (StmtsPass env b next ss)) (GroupsTell (GroupsPass env b1 later gs)) (GroupsTell (GroupsPass env b next (more_groups ls ss gs))) (labels_of env i ls) (stmts env a b next ss) (groups_of_switch env a b1 later i gs) (λ vs q rest. fine (labelled vs q rest))
         (anything (labels_of env i ls)) (stmts_pass ss env w a b next (first_known (tags_of_stmts false ss) (tags_of_groups false gs) k1) l.0) (groups_pass gs env w a b1 later i (rest_known (tags_of_stmts false ss) (tags_of_groups false gs) k1) l.1)
         (λ vs q m _. two_told (calls_in_stmts q.tree) (calls_in_groups m.groups.tree) (two_pass (kept_of_stmts (sites_of p) b.sites ss) (kept_of_groups (sites_of p) (b.sites + calls_of_stmts ss) gs)))
+
+pub bodies_are_tabled : BodiesAreTabled
+bodies_are_tabled p n h enums tags stood env w a b next is among known names q e f in_p same =
+    let Passes : Type 0 = BlockTabled p (sites_of p) env b next is × BlockNamed (sites_of p) b.sites is × AreTemporaries enums tags stood b.sites (calls_of_block is) (kept_of_block (sites_of p) b.sites is) in
+    let passes : Passes =
+    held (λ q. InTable (λ s. callee_at s (mentions_of_program p)) (calls_in_stmts q.tree) → Passes) (items_of_block env a b next is) q (block_passes p enums tags stood is env w a b next (record { numbered = among; stand = known }) names) e
+    (subst (λ s. InTable (λ s. callee_at s (mentions_of_program p)) (calls_in_stmt s)) same (body_in_table p n h f in_p)) in
+    record { tabled = passes.0; named = passes.1; temporaries = passes.2 }

@@ -9,6 +9,7 @@ use Rattle.c_rules.specs.Names.{Name, is_among, is_reserved, is_added, null_call
 use Rattle.c_rules.specs.Scopes.{Env, Binding, a_local, lookup, at_depth}
 use Rattle.c_rules.specs.Declarators.{new_name}
 use Rattle.null_calls_rules.specs.Temporaries.{Temporary, pre_name, post_name, designator_name, argument_name, result_name}
+use Rattle.c_rules_laws.proofs.Holding.{Each, each_map}
 use Rattle.null_calls_units_laws.specs.Declarations.{with_temporaries, AreNew}
 use Rattle.null_calls_units_laws.specs.TemporaryNames.{IsFreeName}
 use Rattle.null_calls_units_laws.proofs.NameLemmas.{names_are_free}
@@ -37,8 +38,7 @@ free_by x s i (inr (inl e)) = subst IsFreeName (sym e) (names_are_free s i).argu
 free_by x s i (inr (inr e)) = subst IsFreeName (sym e) (names_are_free s i).result
 
 abbrev pub AllFree : List Temporary → Type 0
-AllFree [] = Unit {0}
-AllFree (x ∷ xs) = IsFreeName x.name × AllFree xs
+AllFree xs = Each (λ (x : Temporary). IsFreeName x.name) xs
 
 pub all_free : (lo n : ℕ) (xs : List Temporary) → AreOfSites lo n xs → AllFree xs
 all_free lo n [] h = tt
@@ -58,8 +58,7 @@ behind_is env more k [] = refl
 behind_is env more k (x ∷ xs) = behind_is env (record more { names = temporary_binding env.depth k x ∷ more.names }) (suc k) xs
 
 abbrev OtherThan : Name → List Temporary → Type 0
-OtherThan y [] = Unit {0}
-OtherThan y (x ∷ xs) = (bytes_eq x.name y ≡ false) × OtherThan y xs
+OtherThan y xs = Each (λ (x : Temporary). bytes_eq x.name y ≡ false) xs
 
 past_all : (y : Name) (d k : ℕ) (xs : List Temporary) (ns : List Binding) → OtherThan y xs → lookup (names_behind d k xs ns) y ≡ lookup ns y
 past_all y d k [] ns h = refl
@@ -78,19 +77,16 @@ found_all d k (x ∷ xs) ns h =
 
 -- a name that isn't reserved is no temporary
 unreserved_other : (y : Name) (xs : List Temporary) → is_reserved y ≡ false → AllFree xs → OtherThan y xs
-unreserved_other y [] u h = tt
-unreserved_other y (x ∷ xs) u h = (other x.name y (λ e. true≢false (sym (reserved x.name h.0.added) ∙ (ap is_reserved e ∙ u))), unreserved_other y xs u h.1)
+unreserved_other y xs u h = each_map (λ (x : Temporary). IsFreeName x.name) (λ (x : Temporary). bytes_eq x.name y ≡ false) (λ x f. other x.name y (λ e. true≢false (sym (reserved x.name f.added) ∙ (ap is_reserved e ∙ u)))) xs h
 
 -- nor is a null call
 null_other : (y : Name) (xs : List Temporary) → is_among null_calls y ≡ true → AllFree xs → OtherThan y xs
-null_other y [] u h = tt
-null_other y (x ∷ xs) u h = (other x.name y (λ e. true≢false (sym u ∙ (ap (is_among null_calls) (sym e) ∙ among_rest system_calls null_calls x.name h.0.other))), null_other y xs u h.1)
+null_other y xs u h = each_map (λ (x : Temporary). IsFreeName x.name) (λ (x : Temporary). bytes_eq x.name y ≡ false) (λ x f. other x.name y (λ e. true≢false (sym u ∙ (ap (is_among null_calls) (sym e) ∙ among_rest system_calls null_calls x.name f.other)))) xs h
 
 -- ## They are new
 
 abbrev AllAbsent : List Binding → List Temporary → Type 0
-AllAbsent ns [] = Unit {0}
-AllAbsent ns (x ∷ xs) = (lookup ns x.name ≡ None) × AllAbsent ns xs
+AllAbsent ns xs = Each (λ (x : Temporary). lookup ns x.name ≡ None) xs
 
 still_absent : (b : Binding) (x : Temporary) (xs : List Temporary) (ns : List Binding) → b.name ≡ x.name → DiffersFrom x xs → AllAbsent ns xs → AllAbsent (b ∷ ns) xs
 still_absent b x [] ns e h a = tt
@@ -109,8 +105,7 @@ are_new env more stood at k (x ∷ xs) w f d a =
     (w.0, spelled env.enums env.whole.tags stood x.ctype w.1, f.0.added, is_new env more at x.name f.0 a.0, are_new env (record more { names = b ∷ more.names }) stood at (suc k) xs w.2 f.1 d.1 (still_absent b x xs more.names refl d.0 a.1))
 
 all_absent : (env : Env) (more : More) → HasNullCalls env more → (xs : List Temporary) → AllFree xs → AllAbsent more.names xs
-all_absent env more l [] h = tt
-all_absent env more l (x ∷ xs) h = (l.fresh x.name (reserved x.name h.0.added) (among_rest system_calls null_calls x.name h.0.other), all_absent env more l xs h.1)
+all_absent env more l xs h = each_map (λ (x : Temporary). IsFreeName x.name) (λ (x : Temporary). lookup more.names x.name ≡ None) (λ x f. l.fresh x.name (reserved x.name f.added) (among_rest system_calls null_calls x.name f.other)) xs h
 
 pub temporaries_new : (env : Env) (more : More) → HasNullCalls env more → (stood : List Name) (at k : ℕ) (xs : List Temporary) → AreWrittenTemporaries env.enums env.whole.tags stood xs → AllFree xs → AllDiffer xs → AreNew (instrumented_scope env more) at k xs
 temporaries_new env more l stood at k xs w f d = are_new env more stood at k xs w f d (all_absent env more l xs f)

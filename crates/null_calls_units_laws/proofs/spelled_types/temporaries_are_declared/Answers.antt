@@ -1,4 +1,4 @@
-use Rattle.null_calls_units_laws.proofs.Declarations.{temporaries_are_declared}
+use Rattle.null_calls_units_laws.proofs.Counted.{temporaries_are_declared}
 use Rattle.null_calls_units_laws.proofs.spelled_types.temporaries_are_declared.Goals as goal
 
 -- src/laws.rt:15:1
