@@ -39,7 +39,7 @@ use Rattle.c_meaning_laws.specs.TypedResults.{EndsTyped, Gives}
 use Rattle.c_meaning_laws.proofs.Places.{at_place, repeat_lies, int_value, uint_value, pointer_value, scalar_object, kind_given}
 use Rattle.c_meaning_laws.proofs.Steps.{Right, tested_right, writable_right, right_then, there_right, pointer_right, cells_there, store_right}
 use Rattle.c_meaning_laws.proofs.Ends.{if_ends, after_ends, then_ends, answered_ends, remembered_ends}
-use Rattle.c_shapes.proofs.Members.{and_left, and_right}
+use Rattle.c_meaning_laws.proofs.Members.{and_left, and_right}
 
 abbrev char : CType
 char = integer i.Char

@@ -5,14 +5,14 @@ use Rattle.c_tree.specs.declared.value.Value.TheVariants.{Func}
 use Rattle.c_tree.specs.Tree.{CType, pointer, Program}
 use Rattle.c_tree.specs.Functions.{sys_types, defined, type_of_defined, value_types, value_type}
 use Rattle.c_tree.specs.Kinds.{Objects}
-use Rattle.c_shapes.specs.Mentions.{Direct, Through, Calls, mentions_of_program}
-use Rattle.c_shapes.specs.CallGraph.{is_taken, is_typed, functions_of, callees, called_where, candidates}
-use Rattle.c_shapes.proofs.SameTypes.{types_tell}
+use Rattle.c_meaning_laws.specs.Mentions.{Direct, Through, Calls, mentions_of_program}
+use Rattle.c_meaning_laws.specs.CallGraph.{is_taken, is_typed, functions_of, callees, called_where, candidates}
+use Rattle.c_meaning_laws.proofs.SameTypes.{types_tell}
 use Rattle.c_meaning_laws.specs.StoreTyping.{HasKind}
 use Rattle.c_meaning_laws.specs.Callees.{CalleesAreCandidates}
 use Rattle.c_meaning_laws.proofs.Keeps.{sys_many}
-use Rattle.c_shapes.proofs.Members.{and_both, in_filter, in_range, is_first, length_map}
-use Rattle.c_shapes.proofs.SitesSaid.{callee_found}
+use Rattle.c_meaning_laws.proofs.Members.{and_both, in_filter, in_range, is_first, length_map}
+use Rattle.c_meaning_laws.proofs.SitesSaid.{callee_found}
 
 -- an address-taken function of the type is a candidate
 taken_candidate : (p : Program) (f : ℕ) (t u : CType) → t ≡ pointer u → value_type p f ≡ Some u → is_taken p f ≡ true → Contains (callees p (Through t)) f

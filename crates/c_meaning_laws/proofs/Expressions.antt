@@ -13,7 +13,7 @@ use Rattle.c_tree.specs.Operators.{Answer, gives, undefined, convert, binary}
 use Rattle.c_tree.specs.Program.{IsProgram}
 use Rattle.c_tree.specs.Typed.{IsValue, IsPlace, AreMembers, AreArguments, IsCondition}
 use Rattle.c_meaning.specs.Memory.{Objects as Memory}
-use Rattle.c_shapes.specs.Mentions.{Calls, Direct, Through, mentions, mentions_of_all}
+use Rattle.c_meaning_laws.specs.Mentions.{Calls, Direct, Through, mentions, mentions_of_all}
 use Rattle.c_meaning.specs.Meaning.{Marks, Frame, World, either, behind_of, decayed, operated, comparing, moving, updated, wants, call_undefined, called, system_call_alone, called_through, tested, eval, eval_each, eval_all}
 use Rattle.c_meaning.specs.Pointers.{callee, truth_value, load_place, store_place, member, difference, test}
 use Rattle.c_meaning.specs.Results.{State, with_memory, Result, then_do, answered}

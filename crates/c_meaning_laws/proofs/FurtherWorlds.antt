@@ -10,7 +10,7 @@ use Rattle.c_tree.specs.Functions.{int}
 use Rattle.c_tree.specs.Program.{IsProgram}
 use Rattle.c_tree.specs.Typed.{IsTest, IsStep, IsStmt}
 use Rattle.c_meaning.specs.Memory.{Objects as Memory}
-use Rattle.c_shapes.specs.Mentions.{mentions_of_maybe}
+use Rattle.c_meaning_laws.specs.Mentions.{mentions_of_maybe}
 use Rattle.c_meaning.specs.Meaning.{Marks, Frame, Loop, World, condition, perhaps, without, exec, either}
 use Rattle.c_meaning.specs.Results.{State, with_memory, Result, Go, Stop, then_do, Exit, on, broken, continued, returned, on_round}
 use Rattle.c_meaning.specs.Runs.{with_parameters, parameters, entered, without_value, result_of, run_body, enter, loop, world, beginning, ending}

@@ -26,8 +26,8 @@ use Rattle.c_tree.specs.Program.{IsStatic, IsProgram}
 use Rattle.c_tree.specs.Typed.{IsStaticOf, IsVariableOf, IsValue, IsPlace, AreMembers, AreArguments, IsCondition, IsTest, IsStep, AreInits, IsDeclare, AreFirst, IsStmt, AreStmts, AreGroups}
 use Rattle.c_meaning.specs.Memory.{declared}
 use Rattle.c_meaning.specs.Memory.{Objects as Memory}
-use Rattle.c_shapes.proofs.Members.{below, is_below, not_below, length_map}
-use Rattle.c_shapes.specs.Mentions.{Calls, Direct, Through, mentions, mentions_of_all, mentions_of_maybe, mentions_of_inits, mentions_of_stmt, mentions_of_stmts, mentions_of_groups}
+use Rattle.c_meaning_laws.proofs.Members.{below, is_below, not_below, length_map}
+use Rattle.c_meaning_laws.specs.Mentions.{Calls, Direct, Through, mentions, mentions_of_all, mentions_of_maybe, mentions_of_inits, mentions_of_stmt, mentions_of_stmts, mentions_of_groups}
 use Rattle.c_meaning.specs.Meaning.{Marks, Frame, World, either, static_name, name_in, behind_of, decayed, operated, comparing, moving, updated, with_marks, wants, null_call, call_undefined, called, system_call_alone, called_through, tested, eval, eval_each, eval_all, condition, perhaps, initialise, fresh, declared_in, without, leaving, selected, exec, exec_all, exec_from}
 use Rattle.c_meaning.specs.Pointers.{callee, truth_value, place, load_place, store_place, member, difference, test}
 use Rattle.c_meaning.specs.Results.{remembered, State, with_memory, Result, Go, Stop, then_do, answered, Exit, on, broken, continued, returned, out_of_switch}

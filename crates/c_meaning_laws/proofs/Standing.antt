@@ -4,10 +4,10 @@ use Rattle.std.specs.Cmp.{nat_eq_equiv}
 use Rattle.std.proofs.lemmas.List.Elements.{Contains-append_left, Contains-append_right}
 use Rattle.c_tree.specs.declared.value.Value.TheVariants.{Func}
 use Rattle.c_tree.specs.Tree.{Function, Static, Program}
-use Rattle.c_shapes.specs.Mentions.{Mention, Named, mention_of_cell, mentions_of_function, mentions_of_static, mentions_of_program}
-use Rattle.c_shapes.specs.CallGraph.{has_one, names, is_taken}
+use Rattle.c_meaning_laws.specs.Mentions.{Mention, Named, mention_of_cell, mentions_of_function, mentions_of_static, mentions_of_program}
+use Rattle.c_meaning_laws.specs.CallGraph.{has_one, names, is_taken}
 use Rattle.c_meaning_laws.specs.TypedResults.{StandsIn}
-use Rattle.c_shapes.proofs.Members.{or_left, or_right, none_in, is_first}
+use Rattle.c_meaning_laws.proofs.Members.{or_left, or_right, none_in, is_first}
 
 pub left_part : (p : Program) (xs ys : List Mention) → StandsIn p (xs ++ ys) → StandsIn p xs
 left_part p xs ys h m k = h m (Contains-append_left xs ys m k)

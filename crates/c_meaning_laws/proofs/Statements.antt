@@ -10,7 +10,7 @@ use Rattle.c_tree.specs.Program.{IsProgram}
 use Rattle.c_tree.specs.Typed.{IsTest, IsStep, AreInits, IsDeclare, IsStmt, AreStmts, AreGroups}
 use Rattle.c_meaning.specs.Memory.{declared}
 use Rattle.c_meaning.specs.Memory.{Objects as Memory}
-use Rattle.c_shapes.specs.Mentions.{mentions, mentions_of_maybe, mentions_of_inits, mentions_of_stmt, mentions_of_stmts, mentions_of_groups}
+use Rattle.c_meaning_laws.specs.Mentions.{mentions, mentions_of_maybe, mentions_of_inits, mentions_of_stmt, mentions_of_stmts, mentions_of_groups}
 use Rattle.c_meaning.specs.Meaning.{Marks, Frame, Loop, World, name_in, initialise, fresh, declared_by, declared_in, without, leaving, selected, exec, exec_all, exec_from}
 use Rattle.c_meaning.specs.Pointers.{place, store_place}
 use Rattle.c_meaning.specs.Results.{State, with_memory, Result, Go, Stop, Exit, on, broken, continued, returned, out_of_switch}

@@ -30,10 +30,10 @@ use Rattle.c_meaning.specs.Memory.{Objects as Memory}
 use Rattle.c_meaning.specs.Meaning.{behind_of, decayed, operated, comparing, moving, computing, is_subtraction, updated}
 use Rattle.c_meaning.specs.Pointers.{callee, number, truth_value, behind, load_place, store_place, member, to_first, at_index, offset, moved, same_array, in_one_array, alive, equal_pointers, compared, test}
 use Rattle.c_meaning.specs.Pointers.{pointer as pointed}
-use Rattle.c_shapes.specs.CallGraph.{is_taken}
+use Rattle.c_meaning_laws.specs.CallGraph.{is_taken}
 use Rattle.c_meaning_laws.specs.StoreTyping.{HasKind, IsCell, IsPlaceAt, IsPlaced, IsTypedMemory}
 use Rattle.c_meaning_laws.proofs.Places.{placed_at, all_get, at_place, int_value, uint_value, pointer_value, get_left, lies_in, repeat_lies, lies_once, member_lies, member_few, scalar_cell, scalar_object, element_object, struct_is, zip_get, zip_set, kind_cell, memory_changed}
-use Rattle.c_shapes.proofs.Members.{and_left, and_right}
+use Rattle.c_meaning_laws.proofs.Members.{and_left, and_right}
 
 -- an answer is what it should be, or one of the kinds U1 to U12
 abbrev pub Right : {A : Type 0} → (A → Type 0) → Answer A → Type 0

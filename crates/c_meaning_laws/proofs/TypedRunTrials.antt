@@ -18,7 +18,7 @@ use Rattle.c_tree.specs.Typed.{IsValue, IsStmt}
 use Rattle.c_tree.specs.Program.{IsProgram, IsFunction, IsStatic, HaveNames, AreStructs, IsBelow}
 use Rattle.c_tree.proofs.TrialNames.{apart, named, no_twin}
 use Rattle.c_tree.proofs.TypedTrials.{function_with}
-use Rattle.c_shapes.specs.CallGraph.{candidates}
+use Rattle.c_meaning_laws.specs.CallGraph.{candidates}
 use Rattle.c_meaning.specs.Runs.{no_marks, run}
 use Rattle.c_meaning_laws.specs.TypedResults.{AreRecorded}
 use Rattle.c_meaning_laws.specs.Laws.{IsTypedRun}

@@ -18,8 +18,8 @@ use Rattle.c_tree.specs.Operands.{IsScalar, IsObject}
 use Rattle.c_tree.specs.Kinds.{Objects, HasType, cells_where, if_static, static_objects}
 use Rattle.c_tree.specs.Program.{IsFunction, IsStatic, IsProgram}
 use Rattle.c_tree.specs.Typed.{IsTest, IsStep, IsStmt}
-use Rattle.c_shapes.specs.CallGraph.{is_taken}
-use Rattle.c_shapes.proofs.Members.{other_number}
+use Rattle.c_meaning_laws.specs.CallGraph.{is_taken}
+use Rattle.c_meaning_laws.proofs.Members.{other_number}
 use Rattle.c_meaning.specs.Memory.{Objects as Memory}
 use Rattle.c_meaning.specs.Meaning.{Marks, Frame, Loop, World, static_name, perhaps, without}
 use Rattle.c_meaning.specs.Results.{State, with_memory, Result, Go, Stop, then_do, Exit, on, broken, continued, returned}

@@ -4,8 +4,8 @@ use Rattle.c_tree.specs.declared.value.Value.TheVariants.{Func}
 use Rattle.c_tree.specs.Tree.{CType, Program}
 use Rattle.c_tree.specs.Kinds.{Objects}
 use Rattle.c_tree.specs.Program.{IsProgram}
-use Rattle.c_shapes.specs.Mentions.{Direct, Through, Calls, mentions_of_program}
-use Rattle.c_shapes.specs.CallGraph.{candidates}
+use Rattle.c_meaning_laws.specs.Mentions.{Direct, Through, Calls, mentions_of_program}
+use Rattle.c_meaning_laws.specs.CallGraph.{candidates}
 use Rattle.c_meaning_laws.specs.StoreTyping.{HasKind}
 
 -- the function that a direct call names is a candidate of its site

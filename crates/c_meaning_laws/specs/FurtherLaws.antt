@@ -7,7 +7,7 @@ use Rattle.c_tree.specs.Typed.{IsValue, IsPlace, AreArguments, IsTest, IsStep, I
 use Rattle.c_tree.specs.Kinds.{Objects, static_objects}
 use Rattle.c_tree.specs.Program.{IsProgram}
 use Rattle.c_meaning.specs.Memory.{Objects as Memory}
-use Rattle.c_shapes.specs.Mentions.{mentions, mentions_of_all, mentions_of_stmt}
+use Rattle.c_meaning_laws.specs.Mentions.{mentions, mentions_of_all, mentions_of_stmt}
 use Rattle.c_meaning.specs.Meaning.{Marks, Frame, Loop, World, eval, eval_all, exec}
 use Rattle.c_meaning.specs.Results.{State, with_memory, Exit}
 use Rattle.c_meaning.specs.SysResult.{SysResult}

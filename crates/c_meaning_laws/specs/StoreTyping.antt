@@ -12,7 +12,7 @@ use Rattle.c_tree.specs.Operands.{IsObject}
 use Rattle.c_tree.specs.Kinds.{Objects, Lies, IsPointer, IsConstant}
 use Rattle.c_meaning.specs.Memory.{Object}
 use Rattle.c_meaning.specs.Memory.{Objects as Memory}
-use Rattle.c_shapes.specs.CallGraph.{is_taken}
+use Rattle.c_meaning_laws.specs.CallGraph.{is_taken}
 use Rattle.c_meaning.specs.Meaning.{Frame, static_name, name_in}
 use Rattle.c_meaning.specs.Results.{State}
 

@@ -9,7 +9,7 @@ use Rattle.c_tree.specs.declared.value.Value.{Value}
 use Rattle.c_tree.specs.Tree.{CType, function, CTypes, list_of, Expr, Exprs, Stmt, type_of, Function, Program}
 use Rattle.c_tree.specs.Typed.{IsValue, IsPlace, AreArguments, IsTest, IsStep, IsStmt}
 use Rattle.c_tree.specs.Kinds.{Objects}
-use Rattle.c_shapes.specs.Mentions.{Mention, mentions, mentions_of_all, mentions_of_maybe, mentions_of_stmt, mentions_of_program}
+use Rattle.c_meaning_laws.specs.Mentions.{Mention, mentions, mentions_of_all, mentions_of_maybe, mentions_of_stmt, mentions_of_program}
 use Rattle.c_meaning.specs.Meaning.{Marks, Frame, Loop, World, wants, eval, eval_all, exec}
 use Rattle.c_meaning.specs.Results.{State, Result, Go, Stop, Exit, on, broken, continued, returned}
 use Rattle.c_meaning_laws.specs.StoreTyping.{HasKind, IsGiven, IsPlaced, IsTypedState, Grows, TellsAlike, TellsOfStatics, IsTypedFrame}

@@ -1,6 +1,6 @@
 use c_lexer::tokens;
 use c_parser::parse;
-use c_syntax::print;
+use c_syntax_printing::print;
 use dm_base::Mode;
 use std::test::Fail;
 

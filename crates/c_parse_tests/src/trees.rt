@@ -1,6 +1,7 @@
 use c_lexer::tokens;
 use c_parser::parse;
-use c_syntax::{BlockItem, Item, ItemKind, StmtKind, Unit, print};
+use c_syntax::{BlockItem, Item, ItemKind, StmtKind, Unit};
+use c_syntax_printing::print;
 use dm_base::Mode;
 use std::test::Fail;
 

@@ -1,7 +1,7 @@
 -- What each punctuator and each keyword begins, told by one datum for each.
 use Rattle.std.proofs.Common.{◌≡◌, ◌≤◌, ℕ, zero, suc, refl, arith}
-use Rattle.c_syntax.proofs.Heads.{head_of_code, head_of_word}
-use Rattle.c_syntax.proofs.Ends.{start_of_code, start_of_word}
+use Rattle.c_syntax_printing.specs.Heads.{head_of_code, head_of_word}
+use Rattle.c_syntax_printing.specs.Starts.{start_of_code, start_of_word}
 
 pub data CodeClass : ℕ → Type 0 where
   an_opening_brace : CodeClass 4

@@ -7,13 +7,13 @@ use Rattle.c_syntax.specs.Tokens.{Is}
 use Rattle.c_parser_phrases.specs.declared.room.Room.{Room}
 use Rattle.c_parser_phrases.specs.Phrases.{HasSpec, HasDeclarator, HasInit}
 use Rattle.c_parser_phrases.specs.Standing.{IsAt}
-use Rattle.c_parser_refusals.specs.Fails.{Fails}
+use Rattle.c_syntax_printing.specs.Fails.{Fails}
 use Rattle.c_parser_phrases.specs.Refusing.{bound_of}
-use Rattle.c_parser_refusals.specs.Phrases.{Bound, any, within, fits_any, ASpec, ADeclarator, AnInit, APlainDecl}
-use Rattle.c_parser_refusals.specs.Declarations.{PartsTail, PartsEnd}
-use Rattle.c_parser_refusals.proofs.Combine.{fails_at}
-use Rattle.c_parser_refusals.proofs.DeclForms.{spec_fails as spec_of_decl_fails, parts_fail, declarator_fails, tail_fails, init_fails, end_fails, no_assign_fails}
-use Rattle.c_parser_refusals.proofs.PartFails.{parts_unclosed, next_part_fails, no_decl_left}
+use Rattle.c_syntax_printing.specs.Phrases.{Bound, any, within, fits_any, ASpec, ADeclarator, AnInit, APlainDecl}
+use Rattle.c_syntax_printing.specs.Declarations.{PartsTail, PartsEnd}
+use Rattle.c_syntax_printing.proofs.Combine.{fails_at}
+use Rattle.c_syntax_printing.proofs.DeclForms.{spec_fails as spec_of_decl_fails, parts_fail, declarator_fails, tail_fails, init_fails, end_fails, no_assign_fails}
+use Rattle.c_syntax_printing.proofs.PartFails.{parts_unclosed, next_part_fails, no_decl_left}
 use Rattle.c_parser.proofs.Firsts.{not_at}
 use Rattle.c_parser_phrases.proofs.RefusalsOfDeclarators.{an_init}
 pub use Rattle.c_parser_phrases.proofs.RefusalsOfDeclarators.{a_spec}

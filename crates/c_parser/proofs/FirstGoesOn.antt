@@ -4,15 +4,15 @@ use Rattle.c_lexer.specs.declared.token.Token.{Token}
 use Rattle.c_lexer.specs.declared.token.TokenKind.{TokenKind}
 use Rattle.c_lexer.specs.declared.token.TokenKind.TheVariants.{Name, Keyword, Int, Char, Str, Punct}
 use Rattle.c_syntax.specs.Tokens.{place}
-use Rattle.c_syntax.proofs.Heads.{head, head_of_kind, head_of_code}
-use Rattle.c_syntax.proofs.Ends.{start_of_kind, start_of_code}
+use Rattle.c_syntax_printing.specs.Heads.{head, head_of_kind, head_of_code}
+use Rattle.c_syntax_printing.specs.Starts.{start_of_kind, start_of_code}
 use Rattle.c_parser_phrases.specs.declared.room.Room.{Room}
-use Rattle.c_parser_refusals.specs.Phrases.{within, AStmt}
-use Rattle.c_parser_refusals.specs.Fails.{Fails}
-use Rattle.c_parser_refusals.specs.Opens.{Opens, DeepStmt}
-use Rattle.c_parser_refusals.proofs.PartFails.{no_stmt_left}
-use Rattle.c_parser_refusals.proofs.StmtOpens.{semicolon_too_deep, block_too_deep, if_too_deep, while_too_deep, for_too_deep, switch_too_deep}
-use Rattle.c_parser_refusals.proofs.BodyOpens.{do_too_deep, break_too_deep, continue_too_deep, return_too_deep, evaluation_too_deep}
+use Rattle.c_syntax_printing.specs.Phrases.{within, AStmt}
+use Rattle.c_syntax_printing.specs.Fails.{Fails}
+use Rattle.c_syntax_printing.specs.Opens.{Opens, DeepStmt}
+use Rattle.c_syntax_printing.proofs.PartFails.{no_stmt_left}
+use Rattle.c_syntax_printing.proofs.StmtOpens.{semicolon_too_deep, block_too_deep, if_too_deep, while_too_deep, for_too_deep, switch_too_deep}
+use Rattle.c_syntax_printing.proofs.BodyOpens.{do_too_deep, break_too_deep, continue_too_deep, return_too_deep, evaluation_too_deep}
 use Rattle.c_parser.specs.Nesting.{PastAt, OpensAs}
 use Rattle.c_parser.proofs.Classes.{CodeClass, an_opening_brace, a_closing_brace, a_semicolon, an_operand, another_code, code_class}
 use Rattle.c_parser.proofs.Classes.{WordClass, break_word, case_word, continue_word, default_word, do_word, else_word, for_word, if_word, return_word, sizeof_word, static_word, extern_word, switch_word, while_word, a_specifier, another_word, word_class}

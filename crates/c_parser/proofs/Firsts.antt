@@ -6,12 +6,12 @@ use Rattle.c_lexer.specs.declared.token.TokenKind.TheVariants.{Name, Keyword, In
 use Rattle.c_lexer.specs.declared.punctuator.TheConstants.{RIGHT_BRACE}
 use Rattle.c_lexer.specs.declared.keyword.TheConstants.{CASE, DEFAULT, ELSE, EXTERN, STATIC}
 use Rattle.c_syntax.specs.Tokens.{Is, IsKeyword}
-use Rattle.c_syntax.proofs.Heads.{head, head_of_kind}
-use Rattle.c_syntax.proofs.Ends.{start, start_of_kind}
+use Rattle.c_syntax_printing.specs.Heads.{head, head_of_kind}
+use Rattle.c_syntax_printing.specs.Starts.{start, start_of_kind}
 use Rattle.c_parser_phrases.specs.Standing.{IsAt, IsAtKeyword}
 use Rattle.c_parser_phrases.specs.Looking.{IsAtSpecifier}
-use Rattle.c_parser_refusals.specs.Fails.{NotAt}
-use Rattle.c_parser_refusals.proofs.ElseWord.{else_stands}
+use Rattle.c_syntax_printing.specs.Fails.{NotAt}
+use Rattle.c_syntax_printing.proofs.ElseWord.{else_stands}
 use Rattle.c_parser.proofs.Classes.{CodeClass, an_opening_brace, a_closing_brace, a_semicolon, an_operand, another_code, code_class}
 use Rattle.c_parser.proofs.Classes.{WordClass, break_word, case_word, continue_word, default_word, do_word, else_word, for_word, if_word, return_word, sizeof_word, static_word, extern_word, switch_word, while_word, a_specifier, another_word, word_class}
 pub use Rattle.c_parser_phrases.proofs.Raising.{not_at, not_at_word}

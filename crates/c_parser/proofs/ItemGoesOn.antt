@@ -13,11 +13,11 @@ use Rattle.c_syntax.specs.Statements.{ReadsMaybeInit, ReadsEnumeratorValue, Read
 use Rattle.c_parser_phrases.specs.declared.room.Room.{Room}
 use Rattle.c_parser_phrases.specs.Phrases.{HasSpec, HasDeclarator}
 use Rattle.c_parser_phrases.specs.Standing.{IsAt, TookName}
-use Rattle.c_parser_refusals.specs.Opens.{Opens, DeepExpr, DeepDeclarator, DeepInit, DeepParts, DeepDecl, DeepBlock, DeepItem, DeepUnit}
-use Rattle.c_parser_refusals.proofs.PartOpens.{part_declarator_opens, part_init_opens, next_part_opens, decl_opens}
-use Rattle.c_parser_refusals.proofs.UnitOpens.{item_parts_open, item_body_opens, first_item_opens, later_item_opens}
-use Rattle.c_parser_refusals.specs.Deep.{DeepDeclarators, DeepMembers, DeepEnumerators}
-use Rattle.c_parser_refusals.proofs.MemberOpens.{first_declarator_opens, later_declarator_opens, first_member_opens, later_member_opens, struct_opens, enumerator_value_opens, later_enumerator_opens, enum_opens}
+use Rattle.c_syntax_printing.specs.Opens.{Opens, DeepExpr, DeepDeclarator, DeepInit, DeepParts, DeepDecl, DeepBlock, DeepItem, DeepUnit}
+use Rattle.c_syntax_printing.proofs.PartOpens.{part_declarator_opens, part_init_opens, next_part_opens, decl_opens}
+use Rattle.c_syntax_printing.proofs.UnitOpens.{item_parts_open, item_body_opens, first_item_opens, later_item_opens}
+use Rattle.c_syntax_printing.specs.Deep.{DeepDeclarators, DeepMembers, DeepEnumerators}
+use Rattle.c_syntax_printing.proofs.MemberOpens.{first_declarator_opens, later_declarator_opens, first_member_opens, later_member_opens, struct_opens, enumerator_value_opens, later_enumerator_opens, enum_opens}
 use Rattle.c_parser.specs.Parsed.{HasMaybeInit, HasDeclarators, HasEnumeratorValue, HasItem}
 use Rattle.c_parser.specs.Nesting.{OpensInBlock}
 use Rattle.c_parser.proofs.Ended.{declares_to, tag_to}

@@ -14,24 +14,25 @@ use Rattle.c_syntax.specs.Tokens.{Is, IsKeyword}
 use Rattle.c_syntax.specs.Specifiers.{ReadsStorage, no_storage_stands, static_stands, extern_stands}
 use Rattle.c_syntax.specs.Grammar.{conditional_level}
 use Rattle.c_syntax.specs.Statements.{ReadsTag, no_name, a_tag}
-use Rattle.c_syntax.proofs.Ends.{start, started_word}
+use Rattle.c_syntax_printing.specs.Starts.{start}
+use Rattle.c_syntax_printing.proofs.Ends.{started_word}
 use Rattle.c_parser_phrases.specs.declared.room.Room.{Room}
 use Rattle.c_parser_phrases.specs.declared.error.PhraseError.{PhraseError}
 use Rattle.c_parser_phrases.specs.declared.error.PhraseError.TheVariants.{OutOfMemory, Syntax, Nesting}
 use Rattle.c_parser_phrases.specs.Phrases.{HasRead, HasSpec, HasDeclarator}
 use Rattle.c_parser_phrases.specs.Standing.{IsAt, IsAtKeyword, TookName}
 use Rattle.c_parser_phrases.specs.Refusing.{bound_of, Stops}
-use Rattle.c_parser_refusals.specs.Fails.{Fails, then, One, one, NotAt}
-use Rattle.c_parser_refusals.specs.Phrases.{Bound, any, Fits, fits_any, fits_within, inner, ASpec, ADeclarator, AnExpr, InBlock, Punctuator}
-use Rattle.c_parser_refusals.specs.Operands.{IsSomeName}
-use Rattle.c_parser_refusals.specs.Declarations.{PartsTail}
-use Rattle.c_parser_refusals.specs.Units.{AUnit}
-use Rattle.c_parser_refusals.specs.Items.{DeclaratorsClosed, declarators_closed, DeclaratorsEnd, AMember, InStruct, MembersRest, InEnum, EnumEnd, ValueRest, OtherRest, AnOther, AnItem, UnitRest, NoStruct, NoEnum}
-use Rattle.c_parser_refusals.proofs.Combine.{meets_itself, fails_at, fails_first, fails_later, fails_under, fails_further, missing}
-use Rattle.c_parser_refusals.proofs.Fixed.{expr_fixes, spec_fixes, declarator_fixes}
-use Rattle.c_parser_refusals.proofs.ItemFails.{first_declarator_fails, first_declarator_leads, declarators_unclosed, next_declarator_fails, member_fails, member_leads, more_members_fail, members_close, struct_fails, struct_nameless}
-use Rattle.c_parser_refusals.proofs.ItemFails.{enum_nameless, enumerator_fails, enumerator_value_fails, no_value_fails, enum_unclosed, enum_closes, enum_closes_after_comma, enum_goes_on, enum_tagless, bare_enum_fails, tagged_enum_fails}
-use Rattle.c_parser_refusals.proofs.ItemFails.{storage_fixes, other_fails, other_struct_fails, other_enum_fails, body_fails, no_body_fails, item_fails, item_leads, more_items_fail}
+use Rattle.c_syntax_printing.specs.Fails.{Fails, then, One, one, NotAt}
+use Rattle.c_syntax_printing.specs.Phrases.{Bound, any, Fits, fits_any, fits_within, inner, ASpec, ADeclarator, AnExpr, InBlock, Punctuator}
+use Rattle.c_syntax_printing.specs.Operands.{IsSomeName}
+use Rattle.c_syntax_printing.specs.Declarations.{PartsTail}
+use Rattle.c_syntax_printing.specs.Units.{AUnit}
+use Rattle.c_syntax_printing.specs.Items.{DeclaratorsClosed, declarators_closed, DeclaratorsEnd, AMember, InStruct, MembersRest, InEnum, EnumEnd, ValueRest, OtherRest, AnOther, AnItem, UnitRest, NoStruct, NoEnum}
+use Rattle.c_syntax_printing.proofs.Combine.{meets_itself, fails_at, fails_first, fails_later, fails_under, fails_further, missing}
+use Rattle.c_syntax_printing.proofs.Fixed.{expr_fixes, spec_fixes, declarator_fixes}
+use Rattle.c_syntax_printing.proofs.ItemFails.{first_declarator_fails, first_declarator_leads, declarators_unclosed, next_declarator_fails, member_fails, member_leads, more_members_fail, members_close, struct_fails, struct_nameless}
+use Rattle.c_syntax_printing.proofs.ItemFails.{enum_nameless, enumerator_fails, enumerator_value_fails, no_value_fails, enum_unclosed, enum_closes, enum_closes_after_comma, enum_goes_on, enum_tagless, bare_enum_fails, tagged_enum_fails}
+use Rattle.c_syntax_printing.proofs.ItemFails.{storage_fixes, other_fails, other_struct_fails, other_enum_fails, body_fails, no_body_fails, item_fails, item_leads, more_items_fail}
 use Rattle.c_parser.specs.Refusing.{AfterStorage}
 use Rattle.c_parser.specs.Starting.{BeginsTagged, BeginsEnum, BeginsOther}
 use Rattle.c_parser.specs.Parsed.{HasDeclarators, HasItem}

@@ -10,23 +10,24 @@ use Rattle.c_syntax.specs.Tokens.{IsKeyword}
 use Rattle.c_syntax.specs.Grammar.{conditional_level, expression_level}
 use Rattle.c_syntax.specs.Statements.{ReadsStmt, a_block, an_empty, an_evaluation, an_if, an_if_else, a_while, a_do, a_for, a_switch, a_break, a_continue, a_return}
 use Rattle.c_syntax.specs.Limits.{height_of_stmt}
-use Rattle.c_syntax.proofs.Ranks.{ranked}
-use Rattle.c_syntax.proofs.Heads.{head, headed, worded}
-use Rattle.c_syntax.proofs.OneDecl.{labels_head}
+use Rattle.c_syntax_printing.proofs.Ranks.{ranked}
+use Rattle.c_syntax_printing.specs.Heads.{head}
+use Rattle.c_syntax_printing.proofs.Heads.{headed, worded}
+use Rattle.c_syntax_printing.proofs.OneDecl.{labels_head}
 use Rattle.c_parser_phrases.specs.declared.room.Room.{Room}
 use Rattle.c_parser_phrases.specs.Phrases.{HasRead}
 use Rattle.c_parser_phrases.specs.Standing.{IsAt, IsAtKeyword}
 use Rattle.c_parser_phrases.specs.Looking.{IsAtSpecifier}
-use Rattle.c_parser_refusals.specs.Fails.{Meets, at_end, at_token, Fails, Then, then, first, second, one}
-use Rattle.c_parser_refusals.specs.Phrases.{Bound, any, within, Fits, inner, fits_any, AnExpr, APlainDecl, AStmt, AFirst, ABlockItem, SomeLabels, InBlock, InSwitch, IfTail, WhileTail, DoTail, ForTail, SwitchTail, EvaluationTail}
-use Rattle.c_parser_refusals.specs.Groups.{InGroup, GroupRest}
-use Rattle.c_parser_refusals.specs.Labels.{LabelsRest}
-use Rattle.c_parser_refusals.proofs.Combine.{fails_at, fails_as, fails_first, fails_after, fails_later, fails_second, fails_under, fails_missing, missing, fails_further}
-use Rattle.c_parser_refusals.proofs.Fixed.{head_alike, expr_fixes}
-use Rattle.c_parser_refusals.proofs.StmtForms.{fits_part, if_form, while_form, do_form, for_form, switch_form, return_form, block_form, break_form, continue_form}
-use Rattle.c_parser_refusals.proofs.BlockForms.{fails_item, fails_items}
-use Rattle.c_parser_refusals.proofs.GroupForms.{switch_goes, labels_fail, group_fails, stmt_fails, rest_fails, ended_fails}
-use Rattle.c_parser_refusals.proofs.PartFails.{default_fails, case_fails, no_labels_begin, more_labels_fail, labels_end_fails, first_decl_fails, first_expr_fails, item_decl_fails, item_stmt_fails, if_needs_two, while_needs_two, do_needs_two, for_needs_two, switch_needs_two}
+use Rattle.c_syntax_printing.specs.Fails.{Meets, at_end, at_token, Fails, Then, then, first, second, one}
+use Rattle.c_syntax_printing.specs.Phrases.{Bound, any, within, Fits, inner, fits_any, AnExpr, APlainDecl, AStmt, AFirst, ABlockItem, SomeLabels, InBlock, InSwitch, IfTail, WhileTail, DoTail, ForTail, SwitchTail, EvaluationTail}
+use Rattle.c_syntax_printing.specs.Groups.{InGroup, GroupRest}
+use Rattle.c_syntax_printing.specs.Labels.{LabelsRest}
+use Rattle.c_syntax_printing.proofs.Combine.{fails_at, fails_as, fails_first, fails_after, fails_later, fails_second, fails_under, fails_missing, missing, fails_further}
+use Rattle.c_syntax_printing.proofs.Fixed.{head_alike, expr_fixes}
+use Rattle.c_syntax_printing.proofs.StmtForms.{fits_part, if_form, while_form, do_form, for_form, switch_form, return_form, block_form, break_form, continue_form}
+use Rattle.c_syntax_printing.proofs.BlockForms.{fails_item, fails_items}
+use Rattle.c_syntax_printing.proofs.GroupForms.{switch_goes, labels_fail, group_fails, stmt_fails, rest_fails, ended_fails}
+use Rattle.c_syntax_printing.proofs.PartFails.{default_fails, case_fails, no_labels_begin, more_labels_fail, labels_end_fails, first_decl_fails, first_expr_fails, item_decl_fails, item_stmt_fails, if_needs_two, while_needs_two, do_needs_two, for_needs_two, switch_needs_two}
 use Rattle.c_parser_phrases.specs.Refusing.{bound_of}
 use Rattle.c_parser.specs.Refusing.{ABefore}
 use Rattle.c_parser.specs.declared.starts.Compound.{Compound}

@@ -9,11 +9,11 @@ use Rattle.c_parser_phrases.specs.declared.error.PhraseError.TheVariants.{OutOfM
 use Rattle.c_parser_phrases.specs.Looking.{IsAtSpecifier}
 use Rattle.c_parser_phrases.specs.Standing.{IsAt}
 use Rattle.c_parser_phrases.specs.Refusing.{bound_of, RefusedFlat, RefusesDeep}
-use Rattle.c_parser_refusals.specs.Fails.{Fails}
-use Rattle.c_parser_refusals.specs.Phrases.{Bound, inner, fits_within, AStmt, APlainDecl}
-use Rattle.c_parser_refusals.specs.Items.{AnItem, AnOther}
-use Rattle.c_parser_refusals.specs.Opens.{Opens, DeepDecl, DeepStmt, DeepBlock}
-use Rattle.c_parser_refusals.proofs.PartOpens.{decl_is_deep}
+use Rattle.c_syntax_printing.specs.Fails.{Fails}
+use Rattle.c_syntax_printing.specs.Phrases.{Bound, inner, fits_within, AStmt, APlainDecl}
+use Rattle.c_syntax_printing.specs.Items.{AnItem, AnOther}
+use Rattle.c_syntax_printing.specs.Opens.{Opens, DeepDecl, DeepStmt, DeepBlock}
+use Rattle.c_syntax_printing.proofs.PartOpens.{decl_is_deep}
 use Rattle.c_parser.specs.declared.starts.Compound.{Compound}
 use Rattle.c_parser.specs.declared.starts.Compound.TheVariants as c
 use Rattle.c_parser.specs.Making.{Adds}

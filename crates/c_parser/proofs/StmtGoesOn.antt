@@ -11,9 +11,9 @@ use Rattle.c_syntax.specs.Grammar.{conditional_level, expression_level}
 use Rattle.c_parser_phrases.specs.declared.room.Room.{Room}
 use Rattle.c_parser_phrases.specs.Phrases.{HasRead}
 use Rattle.c_parser_phrases.specs.Standing.{IsAt, IsAtKeyword}
-use Rattle.c_parser_refusals.specs.Opens.{Opens, DeepExpr, DeepDecl, DeepStmt, DeepBlock}
-use Rattle.c_parser_refusals.proofs.StmtOpens.{if_test_opens, while_test_opens, evaluation_opens, return_opens, block_opens, after_stmt_opens, after_decl_opens, if_is_deep, while_is_deep, switch_is_deep}
-use Rattle.c_parser_refusals.specs.Deep.{DeepLabels, DeepStmts, DeepGroups}
+use Rattle.c_syntax_printing.specs.Opens.{Opens, DeepExpr, DeepDecl, DeepStmt, DeepBlock}
+use Rattle.c_syntax_printing.proofs.StmtOpens.{if_test_opens, while_test_opens, evaluation_opens, return_opens, block_opens, after_stmt_opens, after_decl_opens, if_is_deep, while_is_deep, switch_is_deep}
+use Rattle.c_syntax_printing.specs.Deep.{DeepLabels, DeepStmts, DeepGroups}
 use Rattle.c_parser.specs.Nesting.{OpensAfter, OpensInside, OpensInHead}
 use Rattle.c_parser.specs.declared.nodes.ForHead.{ForHead}
 use Rattle.c_parser.specs.declared.starts.Compound.{Compound}
@@ -21,8 +21,8 @@ use Rattle.c_parser.specs.declared.starts.Compound.TheVariants as c
 use Rattle.c_parser.specs.Starting.{BeginsCompound}
 use Rattle.c_parser.specs.Parsed.{HasCondition, HasMaybe, HasFirst, HasHead, HasStmt, HasPlainDecl, AreLabels, AreStmts}
 use Rattle.c_parser.proofs.Ended.{reads_to, stmt_to, after_token}
-use Rattle.c_parser_refusals.proofs.BodyOpens.{if_body_opens, while_body_opens, else_opens, do_body_opens, do_test_opens, for_first_opens, for_decl_opens, for_test_opens, for_step_opens, for_body_opens, switch_test_opens, switch_groups_open}
-use Rattle.c_parser_refusals.proofs.BodyOpens.{case_opens, after_case_opens, after_default_opens, first_stmt_opens, later_stmt_opens, group_labels_open, group_stmts_open, later_group_opens, do_is_deep, for_is_deep}
+use Rattle.c_syntax_printing.proofs.BodyOpens.{if_body_opens, while_body_opens, else_opens, do_body_opens, do_test_opens, for_first_opens, for_decl_opens, for_test_opens, for_step_opens, for_body_opens, switch_test_opens, switch_groups_open}
+use Rattle.c_syntax_printing.proofs.BodyOpens.{case_opens, after_case_opens, after_default_opens, first_stmt_opens, later_stmt_opens, group_labels_open, group_stmts_open, later_group_opens, do_is_deep, for_is_deep}
 
 pub opens_at : {A : List Token → List Token → Type 0} {i j q : List Token} → i ≡ j → Opens A j q → Opens A i q
 opens_at {A} {q = q} e o = subst (λ z. Opens A z q) (sym e) o

@@ -8,18 +8,18 @@ use Rattle.c_syntax.specs.Tree.{Expr, Maybe, First, Stmt}
 use Rattle.c_syntax.specs.Tokens.{Is, IsKeyword}
 use Rattle.c_syntax.specs.Grammar.{Level, expression_level}
 use Rattle.c_syntax.specs.Statements.{ReadsMaybe, no_expression_stands, an_expression_stands}
-use Rattle.c_syntax.proofs.Ranks.{ranked}
-use Rattle.c_syntax.proofs.Heads.{headed}
+use Rattle.c_syntax_printing.proofs.Ranks.{ranked}
+use Rattle.c_syntax_printing.proofs.Heads.{headed}
 use Rattle.c_parser_phrases.specs.declared.room.Room.{Room}
 use Rattle.c_parser_phrases.specs.declared.error.PhraseError.{PhraseError}
 use Rattle.c_parser_phrases.specs.declared.error.PhraseError.TheVariants.{OutOfMemory, Syntax, Nesting}
 use Rattle.c_parser_phrases.specs.Phrases.{HasRead}
 use Rattle.c_parser_phrases.specs.Standing.{IsAt, IsAtKeyword}
-use Rattle.c_parser_refusals.specs.Fails.{Fails, then, first, second}
-use Rattle.c_parser_refusals.specs.Phrases.{Bound, any, within, inner, fits_any, AnExpr, AFirst, AStmt, MaybeExpr, no_expr, InCondition, InSwitch, IfTail, WhileTail, DoTail, ForTail, SwitchTail}
-use Rattle.c_parser_refusals.proofs.Combine.{Begins, fails_at, fails_first, fails_after, fails_later, fails_missing, missing, fails_begun, fails_then_more}
-use Rattle.c_parser_refusals.proofs.Fixed.{expr_fixes, stmt_fixes}
-use Rattle.c_parser_refusals.proofs.PartFails.{maybe_fixes, maybe_fails, first_fixes, else_fails}
+use Rattle.c_syntax_printing.specs.Fails.{Fails, then, first, second}
+use Rattle.c_syntax_printing.specs.Phrases.{Bound, any, within, inner, fits_any, AnExpr, AFirst, AStmt, MaybeExpr, no_expr, InCondition, InSwitch, IfTail, WhileTail, DoTail, ForTail, SwitchTail}
+use Rattle.c_syntax_printing.proofs.Combine.{Begins, fails_at, fails_first, fails_after, fails_later, fails_missing, missing, fails_begun, fails_then_more}
+use Rattle.c_syntax_printing.proofs.Fixed.{expr_fixes, stmt_fixes}
+use Rattle.c_syntax_printing.proofs.PartFails.{maybe_fixes, maybe_fails, first_fixes, else_fails}
 use Rattle.c_parser_phrases.specs.Refusing.{bound_of, Refuses, RefusedFlat, Stops}
 use Rattle.c_parser.specs.Refusing.{KeepsOrNests, ACondition, ABefore, AHead}
 use Rattle.c_parser.specs.Making.{Adds}

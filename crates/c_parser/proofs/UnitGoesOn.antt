@@ -5,14 +5,14 @@ use Rattle.c_lexer.specs.declared.token.Token.{Token}
 use Rattle.c_syntax.specs.Tree.{Items}
 use Rattle.c_syntax.specs.Statements.{ReadsItems}
 use Rattle.c_syntax.specs.Limits.{deepest}
-use Rattle.c_parser_refusals.specs.Fails.{Meets, at_token, Fails}
-use Rattle.c_parser_refusals.specs.Phrases.{within}
-use Rattle.c_parser_refusals.specs.Units.{AUnit}
-use Rattle.c_parser_refusals.specs.Nodes.{InUnit}
-use Rattle.c_parser_refusals.specs.Pairs.{PairInUnit}
-use Rattle.c_parser_refusals.specs.Opens.{Opens, DeepUnit}
-use Rattle.c_parser_refusals.proofs.UnitFails.{none_within}
-use Rattle.c_parser_refusals.proofs.UnitOpens.{unit_goes_on}
+use Rattle.c_syntax_printing.specs.Fails.{Meets, at_token, Fails}
+use Rattle.c_syntax_printing.specs.Phrases.{within}
+use Rattle.c_syntax_printing.specs.Units.{AUnit}
+use Rattle.c_syntax_printing.specs.Nodes.{InUnit}
+use Rattle.c_syntax_printing.specs.Pairs.{PairInUnit}
+use Rattle.c_syntax_printing.specs.Opens.{Opens, DeepUnit}
+use Rattle.c_syntax_printing.proofs.UnitFails.{none_within}
+use Rattle.c_syntax_printing.proofs.UnitOpens.{unit_goes_on}
 use Rattle.c_parser.specs.TooDeep.{NestsTooDeep, nests}
 
 at_a_token : (mode : Mode) (tokens : List Token) (place : ℕ) (before : List Token) (token : Token) (after : List Token) → tokens ≡ before ++ token ∷ after → Fails (AUnit (within 500 (deepest mode))) tokens (token ∷ after) →

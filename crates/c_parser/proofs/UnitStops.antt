@@ -8,12 +8,12 @@ use Rattle.c_syntax.specs.declared.unit.Unit.{Unit as UnitTree}
 use Rattle.c_syntax.specs.Tree.{Items}
 use Rattle.c_syntax.specs.Limits.{deepest}
 use Rattle.c_syntax.specs.Spelling.{SpellsAnyDepth, SpellsUnit}
-use Rattle.c_syntax.proofs.OneUnit.{same_items}
-use Rattle.c_parser_refusals.specs.Fails.{at_end, at_token, Fails}
-use Rattle.c_parser_refusals.specs.Phrases.{Bound, any}
-use Rattle.c_parser_refusals.specs.Units.{AUnit}
-use Rattle.c_parser_refusals.specs.Opens.{DeepUnit}
-use Rattle.c_parser_refusals.proofs.UnitFails.{none_spelled}
+use Rattle.c_syntax_printing.proofs.OneUnit.{same_items}
+use Rattle.c_syntax_printing.specs.Fails.{at_end, at_token, Fails}
+use Rattle.c_syntax_printing.specs.Phrases.{Bound, any}
+use Rattle.c_syntax_printing.specs.Units.{AUnit}
+use Rattle.c_syntax_printing.specs.Opens.{DeepUnit}
+use Rattle.c_syntax_printing.proofs.UnitFails.{none_spelled}
 use Rattle.c_parser_phrases.specs.declared.error.PhraseError.{PhraseError}
 use Rattle.c_parser_phrases.specs.declared.error.PhraseError.TheVariants as c
 use Rattle.c_parser_phrases.specs.Refusing.{Refuses}

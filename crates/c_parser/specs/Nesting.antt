@@ -12,9 +12,9 @@ use Rattle.c_parser_phrases.specs.declared.error.PhraseError.{PhraseError}
 use Rattle.c_parser_phrases.specs.declared.error.PhraseError.TheVariants.{OutOfMemory, Syntax, Nesting}
 use Rattle.c_parser_phrases.specs.Phrases.{HasDeclarator}
 use Rattle.c_parser_phrases.specs.Refusing.{bound_of}
-use Rattle.c_parser_refusals.specs.Fails.{Fails}
-use Rattle.c_parser_refusals.specs.Phrases.{Bound}
-use Rattle.c_parser_refusals.specs.Opens.{Opens, DeepExpr, DeepInit, DeepParts, DeepStmt, DeepBlock}
+use Rattle.c_syntax_printing.specs.Fails.{Fails}
+use Rattle.c_syntax_printing.specs.Phrases.{Bound}
+use Rattle.c_syntax_printing.specs.Opens.{Opens, DeepExpr, DeepInit, DeepParts, DeepStmt, DeepBlock}
 
 -- in the phrase itself
 abbrev pub OpensAs : (ℕ → ℕ → ℕ → List Token → List Token → Type 0) → (at p n : ℕ) → List Token → List Token → Type 0

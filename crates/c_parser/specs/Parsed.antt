@@ -22,7 +22,7 @@ use Rattle.c_syntax.specs.UnitView.{first_of_head, maybe_of, parts_of, labels_of
 use Rattle.c_syntax.specs.WritesUnit.{block_items_of, stmts_of, groups_of}
 use Rattle.c_parser_phrases.specs.declared.room.Room.{Room}
 use Rattle.c_parser_phrases.specs.Standing.{IsAtKeyword}
-use Rattle.c_parser_refusals.specs.Phrases.{any, ABlockItem}
+use Rattle.c_syntax_printing.specs.Phrases.{any, ABlockItem}
 use Rattle.c_parser.specs.declared.nodes.ForHead.{ForHead}
 use Rattle.c_parser.specs.Lists.{Rest, RestAfterComma}
 

@@ -5,9 +5,9 @@ use Rattle.c_lexer.specs.declared.punctuator.TheConstants.{LEFT_PARENTHESIS, RIG
 use Rattle.c_syntax.specs.Grammar.{expression_level}
 use Rattle.c_parser_phrases.specs.declared.error.PhraseError.{PhraseError}
 use Rattle.c_parser_phrases.specs.declared.error.PhraseError.TheVariants.{OutOfMemory, Syntax, Nesting}
-use Rattle.c_parser_refusals.specs.Fails.{Then}
-use Rattle.c_parser_refusals.specs.Phrases.{Bound, AnExpr, AFirst, MaybeExpr, Punctuator, ASpec, ADeclarator}
-use Rattle.c_parser_refusals.specs.Items.{OtherRest}
+use Rattle.c_syntax_printing.specs.Fails.{Then}
+use Rattle.c_syntax_printing.specs.Phrases.{Bound, AnExpr, AFirst, MaybeExpr, Punctuator, ASpec, ADeclarator}
+use Rattle.c_syntax_printing.specs.Items.{OtherRest}
 use Rattle.c_parser.specs.Refused.{end_of}
 
 -- an error is left as it is, or becomes one of nesting

@@ -7,8 +7,8 @@ use Rattle.c_syntax.specs.Tree.{Items}
 use Rattle.c_syntax.specs.Statements.{ReadsItems}
 use Rattle.c_syntax.specs.Limits.{deepest, most_pairs}
 use Rattle.c_syntax.specs.Spelling.{SpellsUnit}
-use Rattle.c_parser_refusals.specs.Nodes.{InUnit}
-use Rattle.c_parser_refusals.specs.Pairs.{PairInUnit}
+use Rattle.c_syntax_printing.specs.Nodes.{InUnit}
+use Rattle.c_syntax_printing.specs.Pairs.{PairInUnit}
 
 -- No list of tokens that begins with those through the token spells a unit within the limits. Some list that begins so spells a unit
 -- past them, in no more than one pair of parentheses too many: at the place begins a counted node that is one too deep, or opens a

@@ -5,13 +5,13 @@ ghost use Rattle.c_syntax.specs.UnitView.{decl_of, maybe_init_of, storage_of};
 ghost use Rattle.c_syntax.specs.Specifiers.{ReadsStorage};
 ghost use Rattle.c_parser_phrases.specs.Phrases.{HasDeclarator};
 ghost use Rattle.c_parser.specs.Parsed.{HasPlainDecl, HasParts, HasMaybeInit};
-ghost use Rattle.c_parser_refusals.specs.Fails.{Fails};
-ghost use Rattle.c_parser_refusals.specs.Phrases.{Bound, APlainDecl};
-ghost use Rattle.c_parser_refusals.specs.Declarations.{PartsTail, PartsEnd};
-ghost use Rattle.c_parser_refusals.specs.Items.{AnOther};
+ghost use Rattle.c_syntax_printing.specs.Fails.{Fails};
+ghost use Rattle.c_syntax_printing.specs.Phrases.{Bound, APlainDecl};
+ghost use Rattle.c_syntax_printing.specs.Declarations.{PartsTail, PartsEnd};
+ghost use Rattle.c_syntax_printing.specs.Items.{AnOther};
 ghost use Rattle.c_parser_phrases.specs.Refusing.{bound_of, Stops};
 ghost use Rattle.c_parser.specs.Refusing.{AfterStorage};
-ghost use Rattle.c_parser_refusals.specs.Opens.{DeepDecl};
+ghost use Rattle.c_syntax_printing.specs.Opens.{DeepDecl};
 ghost use Rattle.c_parser_phrases.specs.Looking.{IsAtSpecifier};
 ghost use Rattle.c_parser.specs.Nesting.{Passes, OpensAs, OpensParts, OpensInitialiser};
 

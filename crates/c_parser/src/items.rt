@@ -5,17 +5,17 @@ ghost use Rattle.c_lexer.specs.declared.punctuator.TheConstants.{COMMA as comma,
 ghost use Rattle.c_syntax.specs.Tokens.{Is, IsKeyword};
 ghost use Rattle.c_syntax.specs.UnitView.{item_at, maybe_of, tag_of};
 ghost use Rattle.c_syntax.specs.Statements.{ReadsTag};
-ghost use Rattle.c_parser_refusals.specs.Fails.{Fails};
-ghost use Rattle.c_parser_refusals.specs.Phrases.{Bound, any, Punctuator};
-ghost use Rattle.c_parser_refusals.specs.Units.{AUnit};
-ghost use Rattle.c_parser_refusals.specs.Items.{AnItem, AnOther, InStruct, AMember, DeclaratorsClosed, InEnum, EnumEnd, ValueRest};
+ghost use Rattle.c_syntax_printing.specs.Fails.{Fails};
+ghost use Rattle.c_syntax_printing.specs.Phrases.{Bound, any, Punctuator};
+ghost use Rattle.c_syntax_printing.specs.Units.{AUnit};
+ghost use Rattle.c_syntax_printing.specs.Items.{AnItem, AnOther, InStruct, AMember, DeclaratorsClosed, InEnum, EnumEnd, ValueRest};
 ghost use Rattle.c_parser_phrases.specs.declared.room.Room.{Room};
 ghost use Rattle.c_parser_phrases.specs.Standing.{IsAt};
 ghost use Rattle.c_parser_phrases.specs.Refusing.{bound_of, Stops};
 ghost use Rattle.c_parser.specs.Starting.{BeginsTagged, BeginsEnum};
 ghost use Rattle.c_parser.specs.Parsed.{HasItem, HasMembers, HasMember, HasDeclarators, HasEnumerators, HasEnumerator, HasEnumeratorValue, AreItems};
-ghost use Rattle.c_parser_refusals.specs.Opens.{Opens, DeepUnit, DeepItem};
-ghost use Rattle.c_parser_refusals.specs.Deep.{DeepMembers, DeepDeclarators, DeepEnumerators};
+ghost use Rattle.c_syntax_printing.specs.Opens.{Opens, DeepUnit, DeepItem};
+ghost use Rattle.c_syntax_printing.specs.Deep.{DeepMembers, DeepDeclarators, DeepEnumerators};
 ghost use Rattle.c_parser.specs.Nesting.{Passes, OpensAs, OpensValue};
 
 use crate::declarations::{parts, storage};

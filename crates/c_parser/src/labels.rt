@@ -1,13 +1,13 @@
 ghost use Rattle.std.specs.Prelude.{◌<◌, ◌↔◌, IfOk, OnOk, IsTrue, List, length, ℕ};
 ghost use Rattle.c_parser.specs.Parsed.{HasLabel, AreLabels};
 ghost use Rattle.c_lexer.specs.declared.token.Token.{Token};
-ghost use Rattle.c_parser_refusals.specs.Fails.{Fails};
-ghost use Rattle.c_parser_refusals.specs.Phrases.{Bound, SomeLabels};
-ghost use Rattle.c_parser_refusals.specs.Labels.{LabelsRest};
+ghost use Rattle.c_syntax_printing.specs.Fails.{Fails};
+ghost use Rattle.c_syntax_printing.specs.Phrases.{Bound, SomeLabels};
+ghost use Rattle.c_syntax_printing.specs.Labels.{LabelsRest};
 ghost use Rattle.c_parser.specs.Starting.{IsAtLabel};
 ghost use Rattle.c_parser_phrases.specs.Refusing.{bound_of, Stops};
-ghost use Rattle.c_parser_refusals.specs.Opens.{Opens};
-ghost use Rattle.c_parser_refusals.specs.Deep.{DeepLabels};
+ghost use Rattle.c_syntax_printing.specs.Opens.{Opens};
+ghost use Rattle.c_syntax_printing.specs.Deep.{DeepLabels};
 ghost use Rattle.c_parser.specs.Nesting.{Passes, OpensAs};
 
 use c_lexer::keyword::{CASE, DEFAULT};

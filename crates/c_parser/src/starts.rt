@@ -2,13 +2,13 @@
 
 ghost use Rattle.std.specs.Prelude.{◌≡◌, ◌<◌, ◌↔◌, ◌⊎◌, ℕ, IsTrue, IfSome, drop, length};
 ghost use Rattle.c_lexer.specs.declared.punctuator.TheConstants.{LEFT_BRACE as opening};
-ghost use Rattle.c_syntax.proofs.Heads.{head, head_of_kind, head_of_word, head_of_code};
-ghost use Rattle.c_parser_refusals.specs.Phrases.{AStmt, within};
+ghost use Rattle.c_syntax_printing.specs.Heads.{head, head_of_kind, head_of_word, head_of_code};
+ghost use Rattle.c_syntax_printing.specs.Phrases.{AStmt, within};
 ghost use Rattle.c_parser_phrases.specs.Standing.{IsAt};
 ghost use Rattle.c_parser_phrases.specs.Refusing.{Refuses};
 ghost use Rattle.c_parser.specs.Refusing.{KeepsOrNests};
 ghost use Rattle.c_parser_phrases.specs.declared.room.Room.{Room};
-ghost use Rattle.c_parser_refusals.specs.Opens.{DeepStmt};
+ghost use Rattle.c_syntax_printing.specs.Opens.{DeepStmt};
 ghost use Rattle.c_parser.specs.Nesting.{RefusesPast, OpensAs};
 ghost use Rattle.c_parser.specs.Starting.{StartsCompound, StartsItem, BeginsTagged, BeginsEnum};
 
@@ -98,7 +98,7 @@ fn word_head(word: u8) -> u8
     }
 }
 
-#[tactic(auto, unfolding(c_syntax::proofs::Heads::head_of_kind))]
+#[tactic(auto, unfolding(c_syntax_printing::specs::Heads::head_of_kind))]
 fn kind_head(kind: &TokenKind) -> u8
     ensures { result ≡ head_of_kind kind.now }
 {

@@ -6,7 +6,7 @@ use Rattle.c_syntax.specs.Tree.{Ident, Access, Postfix, Expr, Exprs, no_exprs, c
 use Rattle.c_syntax.specs.Tokens.{Is, IsAccess, IsPostfix, place}
 use Rattle.c_syntax.specs.Specifiers.{Names}
 use Rattle.c_syntax.specs.Grammar.{primary_level, postfix_level, conditional_level, expression_level, Reads, with_suffixes, ReadsList, Suffixes, no_suffix, an_index, an_empty_call, a_call, a_member, a_postfix, ReadsSize, no_size, a_size, Declares, a_direct, ReadsCore, Lengthens, no_more, an_array, a_function, ReadsParams}
-use Rattle.c_syntax.proofs.Precedence.{Stops}
+use Rattle.c_syntax_printing.specs.Ranks.{Stops}
 use Rattle.c_parser_phrases.specs.declared.looking.Suffix.{Suffix}
 use Rattle.c_parser_phrases.specs.Looking.{IsSuffix}
 

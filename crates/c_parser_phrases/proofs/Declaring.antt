@@ -16,9 +16,10 @@ use Rattle.c_syntax.specs.Limits.{height_of_params}
 use Rattle.c_syntax.specs.Grammar.{HasName, IsThere, AreSome, Declares, a_pointer, a_direct, ReadsCore, a_declared, declarator_in_parentheses, no_core, ReadsParams, are_some, ReadsEach}
 use Rattle.c_syntax.specs.View.{ident_of, param_before, declarator_at, declarator_of}
 use Rattle.c_syntax.specs.Writes.{params_of, declarator_behind}
-use Rattle.c_syntax.proofs.Ends.{start, started, started_name, EndsDeclarator}
-use Rattle.c_syntax.proofs.FrontLemmas.{front_of_all}
-use Rattle.c_syntax.proofs.FrameGrammar.{declares_on}
+use Rattle.c_syntax_printing.specs.Starts.{start, EndsDeclarator}
+use Rattle.c_syntax_printing.proofs.Ends.{started, started_name}
+use Rattle.c_syntax_printing.proofs.FrontLemmas.{front_of_all}
+use Rattle.c_syntax_printing.proofs.FrameGrammar.{declares_on}
 use Rattle.c_parser_phrases.specs.declared.room.Room.{Room}
 use Rattle.c_parser_phrases.specs.declared.depth.MeasuredDeclarator.{MeasuredDeclarator}
 use Rattle.c_parser_phrases.specs.declared.form.Form.{Form}
@@ -29,7 +30,7 @@ use Rattle.c_parser_phrases.specs.Standing.{IsAt, TookName}
 use Rattle.c_parser_phrases.specs.Reading.{Suits, IsParam}
 use Rattle.c_parser_phrases.proofs.Exits.{taken_at, suits_pointer, suits_name, suits_nothing, suits_made, pointer_read, named_read, brackets_read}
 use Rattle.c_parser_phrases.proofs.Lists.{each_one, each_more, some_more, some_one, none_read, params_height}
-use Rattle.c_syntax.proofs.Heads.{lengthened_name}
+use Rattle.c_syntax_printing.proofs.Heads.{lengthened_name}
 
 -- the declarator stands between, has a name or not as it is to, and what follows doesn't go on with it
 abbrev pub IsDeclared : ℕ → Form → Declarator → List Token → List Token → Type 0

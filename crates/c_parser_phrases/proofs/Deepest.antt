@@ -7,7 +7,7 @@ use Rattle.c_syntax.specs.Grammar.{IsThere}
 use Rattle.c_syntax.specs.Statements.{place_of}
 use Rattle.c_syntax.specs.View.{expr_of, param_before}
 use Rattle.c_syntax.specs.Writes.{exprs_of, params_of}
-use Rattle.c_parser_refusals.specs.Nodes.{place_of_declarator, InExpr, expr_here, InExprs, in_first_expr, in_later_expr, InMaybe, InType, InDeclarator, declarator_here, InParams, in_first_param, in_later_param, in_type}
+use Rattle.c_syntax_printing.specs.Nodes.{place_of_declarator, InExpr, expr_here, InExprs, in_first_expr, in_later_expr, InMaybe, InType, InDeclarator, declarator_here, InParams, in_first_param, in_later_param, in_type}
 use Rattle.c_parser_phrases.specs.declared.depth.Depth.{Depth}
 use Rattle.c_parser_phrases.specs.Deepest.{IsDeeper, IsAround}
 

@@ -8,10 +8,10 @@ use Rattle.c_syntax.specs.Tokens.{Is, IsKeyword, IsUnary, IsAssignment, IsPrefix
 use Rattle.c_syntax.specs.Specifiers.{Names, Consts}
 use Rattle.c_syntax.specs.Grammar.{Level, primary_level, unary_level, cast_level, binary_level, conditional_level, assignment_level, expression_level, IsThere}
 use Rattle.c_syntax.specs.Grammar.{Reads, in_parentheses, a_prefix, a_unary, a_sizeof_type, no_cast, a_cast, a_choice, an_assignment, a_comma, ReadsList, last_expr, next_expr, ReadsType, Declares, a_pointer, ReadsCore, a_declared, declarator_in_parentheses}
-use Rattle.c_syntax.proofs.Precedence.{rank, rank_of_kind, Stops}
-use Rattle.c_syntax.proofs.Ranks.{ranked, ranked_infix}
-use Rattle.c_syntax.proofs.Begins.{type_begins}
-use Rattle.c_syntax.proofs.One.{same}
+use Rattle.c_syntax_printing.specs.Ranks.{rank, rank_of_kind, Stops}
+use Rattle.c_syntax_printing.proofs.Ranks.{ranked, ranked_infix}
+use Rattle.c_syntax_printing.proofs.Begins.{type_begins}
+use Rattle.c_syntax_printing.proofs.One.{same}
 use Rattle.c_parser_phrases.specs.declared.form.Form.{Form}
 use Rattle.c_parser_phrases.specs.declared.form.Form.TheVariants.{Named, Abstract, Either}
 use Rattle.c_parser_phrases.specs.Looking.{IsAtCast}

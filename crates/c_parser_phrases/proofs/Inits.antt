@@ -16,7 +16,7 @@ use Rattle.c_syntax.specs.Statements.{place_of, ReadsInit, an_expression, a_list
 use Rattle.c_syntax.specs.View.{expr_at}
 use Rattle.c_syntax.specs.UnitView.{init_at, init_of}
 use Rattle.c_syntax.specs.WritesUnit.{inits_of}
-use Rattle.c_syntax.proofs.Precedence.{rank}
+use Rattle.c_syntax_printing.specs.Ranks.{rank}
 use Rattle.c_parser_phrases.specs.declared.room.Room.{Room}
 use Rattle.c_parser_phrases.specs.Standing.{IsAt, Took}
 use Rattle.c_parser_phrases.specs.Phrases.{HasRead, HasInit}

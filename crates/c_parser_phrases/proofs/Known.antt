@@ -7,7 +7,7 @@ use Rattle.c_lexer.specs.declared.token.TokenKind.TheVariants.{Name, Keyword, In
 use Rattle.c_lexer.specs.declared.punctuator.TheConstants.{QUESTION, COMMA, LEFT_BRACKET, LEFT_PARENTHESIS, DOT, ARROW, INCREMENT, DECREMENT}
 use Rattle.c_syntax.specs.Tokens.{Is, IsInfix, IsAssignment, IsUnary, takes_address, indirects, keeps_sign, changes_sign, complements, negates, multiplies, divides, takes_remainder, adds, subtracts, shifts_left, shifts_right, is_less, is_greater, is_at_most, is_at_least, is_equal, is_unequal, ands_bits, xors_bits, ors_bits, ands, ors, code_of_infix}
 use Rattle.c_syntax.specs.Tokens.{assigns, assigns_product, assigns_quotient, assigns_remainder, assigns_sum, assigns_difference, assigns_left_shift, assigns_right_shift, assigns_bit_and, assigns_bit_xor, assigns_bit_or}
-use Rattle.c_syntax.proofs.Precedence.{rank, rank_of_kind, rank_of_code}
+use Rattle.c_syntax_printing.specs.Ranks.{rank, rank_of_kind, rank_of_code}
 use Rattle.c_parser_phrases.specs.Looking.{between}
 use Rattle.c_parser_phrases.specs.Standing.{IsAt}
 

@@ -4,8 +4,8 @@ use Rattle.std.proofs.Common.{◌⊎◌}
 use Rattle.c_lexer.specs.declared.token.Token.{Token}
 use Rattle.c_lexer.specs.declared.token.TokenKind.TheVariants.{Punct}
 use Rattle.c_lexer.specs.declared.punctuator.TheConstants.{LEFT_BRACKET, LEFT_PARENTHESIS}
-use Rattle.c_syntax.proofs.Ranks.{heads}
-use Rattle.c_syntax.proofs.Ends.{start}
+use Rattle.c_syntax_printing.proofs.Ranks.{heads}
+use Rattle.c_syntax_printing.specs.Starts.{start}
 use Rattle.c_parser_phrases.specs.declared.form.Form.{Form}
 use Rattle.c_parser_phrases.specs.declared.form.Form.TheVariants.{Named, Abstract}
 use Rattle.c_parser_phrases.specs.declared.error.PhraseError.TheVariants.{Syntax, Nesting}

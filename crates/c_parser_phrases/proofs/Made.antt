@@ -11,7 +11,7 @@ use Rattle.c_syntax.specs.Specifiers.{ReadsSpec}
 use Rattle.c_syntax.specs.Grammar.{Level, primary_level, postfix_level, unary_level, cast_level, binary_level, conditional_level, assignment_level, expression_level, HasNoName, Reads, no_prefix, no_cast, no_chain, no_choice, no_assignment, no_comma, ReadsList, last_expr, ReadsType, a_type, Declares}
 use Rattle.c_syntax.specs.View.{expr_of}
 use Rattle.c_syntax.specs.Writes.{exprs_of}
-use Rattle.c_syntax.proofs.Precedence.{rank, Stops}
+use Rattle.c_syntax_printing.specs.Ranks.{rank, Stops}
 use Rattle.c_syntax.specs.Limits.{height, height_of_exprs}
 use Rattle.c_parser_phrases.specs.declared.depth.MeasuredExpr.{MeasuredExpr}
 use Rattle.c_parser_phrases.specs.declared.room.Room.{Room}

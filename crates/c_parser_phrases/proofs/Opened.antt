@@ -10,15 +10,15 @@ use Rattle.c_syntax.specs.Tree.{Expr, TypeName, conditional, dot, arrow, post_in
 use Rattle.c_syntax.specs.Tokens.{Is, IsKeyword, IsChar, place}
 use Rattle.c_syntax.specs.Grammar.{primary_level, postfix_level, unary_level, cast_level, binary_level, conditional_level, assignment_level, expression_level, Reads, with_suffixes, a_choice, ReadsType, no_suffix}
 use Rattle.c_syntax.specs.Grammar.Reads.{is_char as char_stands}
-use Rattle.c_syntax.proofs.Ends.{start, start_of_kind, EndsDeclarator}
-use Rattle.c_syntax.proofs.MorePairs.{wide}
-use Rattle.c_parser_refusals.specs.Fails.{Then, then, One, one}
-use Rattle.c_parser_refusals.specs.Nodes.{InExpr, expr_here, in_no}
-use Rattle.c_parser_refusals.specs.Opens.{Opens, DeepExpr, DeepExprs, DeepType, DeepSuffixes}
-use Rattle.c_parser_refusals.proofs.Fixed.{expr_on}
-use Rattle.c_parser_refusals.proofs.Opening.{opens_as, opens_under, opens_later, opens_here}
-use Rattle.c_parser_refusals.proofs.Begun.{expression_begins}
-use Rattle.c_parser_refusals.proofs.ExprOpens.{either, name_too_deep, int_too_deep, string_too_deep, parentheses_open, pair_too_deep, step_opens, operator_opens, step_too_deep, operator_too_deep, cast_too_deep, sizeof_too_deep, cast_type_opens, sizeof_type_opens, cast_operand_opens, suffixes_open, index_too_high, call_too_high, member_too_high, postfix_too_high, operator_opens_right, operator_opens_left, yes_opens, test_too_high, assigned_value_opens, assigned_too_deep, first_of_list_opens, later_of_list_opens, comma_opens, comma_too_deep}
+use Rattle.c_syntax_printing.specs.Starts.{start, start_of_kind, EndsDeclarator}
+use Rattle.c_syntax_printing.proofs.MorePairs.{wide}
+use Rattle.c_syntax_printing.specs.Fails.{Then, then, One, one}
+use Rattle.c_syntax_printing.specs.Nodes.{InExpr, expr_here, in_no}
+use Rattle.c_syntax_printing.specs.Opens.{Opens, DeepExpr, DeepExprs, DeepType, DeepSuffixes}
+use Rattle.c_syntax_printing.proofs.Fixed.{expr_on}
+use Rattle.c_syntax_printing.proofs.Opening.{opens_as, opens_under, opens_later, opens_here}
+use Rattle.c_syntax_printing.proofs.Begun.{expression_begins}
+use Rattle.c_syntax_printing.proofs.ExprOpens.{either, name_too_deep, int_too_deep, string_too_deep, parentheses_open, pair_too_deep, step_opens, operator_opens, step_too_deep, operator_too_deep, cast_too_deep, sizeof_too_deep, cast_type_opens, sizeof_type_opens, cast_operand_opens, suffixes_open, index_too_high, call_too_high, member_too_high, postfix_too_high, operator_opens_right, operator_opens_left, yes_opens, test_too_high, assigned_value_opens, assigned_too_deep, first_of_list_opens, later_of_list_opens, comma_opens, comma_too_deep}
 use Rattle.c_parser_phrases.specs.declared.looking.Operator.{Operator}
 use Rattle.c_parser_phrases.specs.declared.looking.Suffix.{Suffix}
 use Rattle.c_parser_phrases.specs.declared.looking.Suffix.TheVariants as sv
@@ -32,7 +32,7 @@ use Rattle.c_parser_phrases.proofs.Made.{Stands, Chained}
 use Rattle.c_parser_phrases.proofs.Exits.{taken, taken_at}
 use Rattle.c_parser_phrases.proofs.Refusals.{cast_taken, left_of, Suffixed}
 use Rattle.c_parser_phrases.proofs.Starts.{leaf_code, leaf_word}
-use Rattle.c_parser_refusals.proofs.ExprOpens.{Placed, placed_on}
+use Rattle.c_syntax_printing.proofs.ExprOpens.{Placed, placed_on}
 
 -- the height is the limit
 pub at_limit : {at n h : ℕ} {e : Expr} → n ≤ h → h ≤ n → InExpr at h e → InExpr at n e

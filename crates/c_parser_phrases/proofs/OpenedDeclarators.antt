@@ -9,20 +9,21 @@ use Rattle.c_syntax.specs.Tokens.{Is, place}
 use Rattle.c_syntax.specs.Specifiers.{Names, Consts, no_const, is_void}
 use Rattle.c_syntax.specs.Grammar.{conditional_level, IsThere, no_size, Declares, a_pointer, a_direct, ReadsCore, a_declared, declarator_in_parentheses, no_core, Lengthens, no_more, an_array, a_function, are_none}
 use Rattle.c_syntax.specs.Statements.{ReadsInit}
-use Rattle.c_syntax.proofs.Twins.{after, glue, On}
-use Rattle.c_syntax.proofs.Ends.{start}
-use Rattle.c_syntax.proofs.FrontLemmas.{front_of_all}
-use Rattle.c_syntax.proofs.FrameGrammar.{declares_on, lengthens_on}
-use Rattle.c_syntax.proofs.MorePairs.{wide_core, wide_lengthens}
-use Rattle.c_parser_refusals.specs.Fails.{Then, then, One, one}
-use Rattle.c_parser_refusals.specs.Nodes.{InDeclarator, declarator_here}
-use Rattle.c_parser_refusals.specs.Opens.{Opens, DeepExpr, DeepType, DeepDeclarator, DeepLengthens, DeepEach, DeepInit, DeepInits, Builds, Writes, Filled, Direct}
-use Rattle.c_parser_refusals.proofs.Combine.{fronted, twin_alike}
-use Rattle.c_parser_refusals.proofs.Fills.{name_token, word}
-use Rattle.c_parser_refusals.proofs.Opening.{opens_under, opens_first, opens_here, closed_by}
-use Rattle.c_parser_refusals.proofs.DeclOpens.{type_opens, pointer_opens, pointer_too_deep, named_too_deep, declarator_parentheses_open, lengthens_open, size_opens, array_too_high, function_too_high}
-use Rattle.c_parser_refusals.proofs.PartOpens.{first_param_opens, later_param_opens, params_open}
-use Rattle.c_parser_refusals.proofs.InitOpens.{list_too_deep, init_list_opens, first_init_opens, later_init_opens}
+use Rattle.c_syntax_printing.specs.Twins.{On}
+use Rattle.c_syntax_printing.proofs.Twins.{after, glue}
+use Rattle.c_syntax_printing.specs.Starts.{start}
+use Rattle.c_syntax_printing.proofs.FrontLemmas.{front_of_all}
+use Rattle.c_syntax_printing.proofs.FrameGrammar.{declares_on, lengthens_on}
+use Rattle.c_syntax_printing.proofs.MorePairs.{wide_core, wide_lengthens}
+use Rattle.c_syntax_printing.specs.Fails.{Then, then, One, one}
+use Rattle.c_syntax_printing.specs.Nodes.{InDeclarator, declarator_here}
+use Rattle.c_syntax_printing.specs.Opens.{Opens, DeepExpr, DeepType, DeepDeclarator, DeepLengthens, DeepEach, DeepInit, DeepInits, Builds, Writes, Filled, Direct}
+use Rattle.c_syntax_printing.proofs.Combine.{fronted, twin_alike}
+use Rattle.c_syntax_printing.proofs.Fills.{name_token, word}
+use Rattle.c_syntax_printing.proofs.Opening.{opens_under, opens_first, opens_here, closed_by}
+use Rattle.c_syntax_printing.proofs.DeclOpens.{type_opens, pointer_opens, pointer_too_deep, named_too_deep, declarator_parentheses_open, lengthens_open, size_opens, array_too_high, function_too_high}
+use Rattle.c_syntax_printing.proofs.PartOpens.{first_param_opens, later_param_opens, params_open}
+use Rattle.c_syntax_printing.proofs.InitOpens.{list_too_deep, init_list_opens, first_init_opens, later_init_opens}
 use Rattle.c_parser_phrases.specs.declared.room.Room.{Room}
 use Rattle.c_parser_phrases.specs.declared.depth.Depth.{Depth}
 use Rattle.c_parser_phrases.specs.Deepest.{IsPlace}
@@ -35,9 +36,9 @@ use Rattle.c_parser_phrases.specs.Reading.{Suits, IsBare, IsCored, IsParam, Open
 use Rattle.c_parser_phrases.proofs.Exits.{taken_at, suits_name, suits_nothing}
 use Rattle.c_parser_phrases.proofs.Starts.{kind_of_name, star_there, opening_there, bracket_there}
 use Rattle.c_parser_phrases.proofs.RefusalsOfDeclarators.{Read, unmoved, bare_lengthens, opening_taken}
-use Rattle.c_parser_refusals.proofs.BodyOpens.{close_paren}
-use Rattle.c_parser_refusals.proofs.DeclOpens.{close_bracket}
-use Rattle.c_parser_refusals.proofs.DeclaratorFails.{core_on, place_alike}
+use Rattle.c_syntax_printing.proofs.BodyOpens.{close_paren}
+use Rattle.c_syntax_printing.proofs.DeclOpens.{close_bracket}
+use Rattle.c_syntax_printing.proofs.DeclaratorFails.{core_on, place_alike}
 use Rattle.c_parser_phrases.proofs.Opened.{moved_open}
 
 abbrev some_name : Ident

@@ -1,13 +1,13 @@
 -- How the refusal of a part becomes that of the whole.
 use Rattle.std.proofs.Common.{◌≡◌, ◌<◌, ◌-◌, ℕ, suc, List, length, refl, sym, subst, arith}
-use Rattle.c_parser_refusals.specs.Opens.{Opens}
+use Rattle.c_syntax_printing.specs.Opens.{Opens}
 use Rattle.c_lexer.specs.declared.token.Token.{Token}
 use Rattle.c_parser_phrases.specs.declared.room.Room.{Room}
 use Rattle.c_parser_phrases.specs.declared.error.PhraseError.{PhraseError}
 use Rattle.c_parser_phrases.specs.declared.error.PhraseError.TheVariants.{OutOfMemory, Syntax, Nesting}
-use Rattle.c_parser_refusals.specs.Fails.{Fails, NotAt}
-use Rattle.c_parser_refusals.specs.Phrases.{Bound, any, within, inner}
-use Rattle.c_parser_refusals.specs.Operands.{enclosed}
+use Rattle.c_syntax_printing.specs.Fails.{Fails, NotAt}
+use Rattle.c_syntax_printing.specs.Phrases.{Bound, any, within, inner}
+use Rattle.c_syntax_printing.specs.Operands.{enclosed}
 use Rattle.c_syntax.specs.Tokens.{Is, IsKeyword}
 use Rattle.c_parser_phrases.specs.Standing.{IsAt, IsAtKeyword}
 use Rattle.c_parser_phrases.specs.Refusing.{bound_of, Refuses, RefusesDeep, RefusedFlat}

@@ -8,23 +8,25 @@ use Rattle.c_syntax.specs.Tree.{Access, pre_increment, pre_decrement, sizeof, Ex
 use Rattle.c_syntax.specs.Tokens.{Is, IsKeyword, IsAccess, place}
 use Rattle.c_syntax.specs.Grammar.{Level, primary_level, postfix_level, unary_level, cast_level, binary_level, conditional_level, assignment_level, expression_level, Reads, with_suffixes, ReadsList, ReadsType, Suffixes, no_suffix}
 use Rattle.c_syntax.specs.Limits.{height}
-use Rattle.c_syntax.proofs.Precedence.{rank, rank_of_kind, Stops, infix_rank, assignment_rank}
-use Rattle.c_syntax.proofs.Ranks.{ranked, heads, not_word}
-use Rattle.c_syntax.proofs.Ends.{start, started, started_prefix, started_unary, started_word, EndsDeclarator}
-use Rattle.c_syntax.proofs.Begins.{expression_begins}
-use Rattle.c_syntax.proofs.FrontLemmas.{front_of_each}
-use Rattle.c_syntax.proofs.FrameGrammar.{reads_on, list_on}
-use Rattle.c_syntax.proofs.One.{only_list}
-use Rattle.c_parser_refusals.specs.Fails.{Fails, One}
-use Rattle.c_parser_refusals.specs.Phrases.{Bound, any, within, inner, fits_any, AnExpr}
-use Rattle.c_parser_refusals.specs.Operands.{enclosed, AType, IsSomeName, SomeExprs, SomeSuffixes, SomeArguments, ExprsRest, NotCast, Past, Postfixed}
-use Rattle.c_parser_refusals.proofs.Combine.{Fixes, fails_at, fails_here, fails_first, fails_later, fails_after, fails_missing, fails_on, fails_under, missing}
-use Rattle.c_parser_refusals.proofs.Fixed.{start_alike, stops_alike, expr_fixes}
-use Rattle.c_parser_refusals.proofs.OperandFails.{postfix_fails, cast_fails}
-use Rattle.c_parser_refusals.proofs.PrefixFails.{no_node_left, no_operand, string_follows, no_pair_left, unary_bare, step_fails, unary_fails, sizeof_fails, type_fixes, sizeof_operand, sizeof_type_fails, suffix_after_type, cast_bare}
-use Rattle.c_parser_refusals.proofs.LevelFails.{first_operand, operator_fails, operator_too_high, choice_fails, choice_too_high, assigned_value_fails, assigned_too_high, assigned_after_operators, assigned_cast, comma_fails, comma_too_high, exprs_first, exprs_fail, next_fails, next_leads}
-use Rattle.c_parser_refusals.proofs.SuffixFails.{postfixed_fails, postfixed_too_high, string_after_suffixes, arguments_fail, call_fails}
-use Rattle.c_parser_refusals.proofs.ExprForms.{paren_form, index_form, member_form}
+use Rattle.c_syntax_printing.specs.Ranks.{rank, rank_of_kind, Stops}
+use Rattle.c_syntax_printing.proofs.Precedence.{infix_rank, assignment_rank}
+use Rattle.c_syntax_printing.proofs.Ranks.{ranked, heads, not_word}
+use Rattle.c_syntax_printing.specs.Starts.{start, EndsDeclarator}
+use Rattle.c_syntax_printing.proofs.Ends.{started, started_prefix, started_unary, started_word}
+use Rattle.c_syntax_printing.proofs.Begins.{expression_begins}
+use Rattle.c_syntax_printing.proofs.FrontLemmas.{front_of_each}
+use Rattle.c_syntax_printing.proofs.FrameGrammar.{reads_on, list_on}
+use Rattle.c_syntax_printing.proofs.One.{only_list}
+use Rattle.c_syntax_printing.specs.Fails.{Fails, One}
+use Rattle.c_syntax_printing.specs.Phrases.{Bound, any, within, inner, fits_any, AnExpr}
+use Rattle.c_syntax_printing.specs.Operands.{enclosed, AType, IsSomeName, SomeExprs, SomeSuffixes, SomeArguments, ExprsRest, NotCast, Past, Postfixed}
+use Rattle.c_syntax_printing.proofs.Combine.{Fixes, fails_at, fails_here, fails_first, fails_later, fails_after, fails_missing, fails_on, fails_under, missing}
+use Rattle.c_syntax_printing.proofs.Fixed.{start_alike, stops_alike, expr_fixes}
+use Rattle.c_syntax_printing.proofs.OperandFails.{postfix_fails, cast_fails}
+use Rattle.c_syntax_printing.proofs.PrefixFails.{no_node_left, no_operand, string_follows, no_pair_left, unary_bare, step_fails, unary_fails, sizeof_fails, type_fixes, sizeof_operand, sizeof_type_fails, suffix_after_type, cast_bare}
+use Rattle.c_syntax_printing.proofs.LevelFails.{first_operand, operator_fails, operator_too_high, choice_fails, choice_too_high, assigned_value_fails, assigned_too_high, assigned_after_operators, assigned_cast, comma_fails, comma_too_high, exprs_first, exprs_fail, next_fails, next_leads}
+use Rattle.c_syntax_printing.proofs.SuffixFails.{postfixed_fails, postfixed_too_high, string_after_suffixes, arguments_fail, call_fails}
+use Rattle.c_syntax_printing.proofs.ExprForms.{paren_form, index_form, member_form}
 use Rattle.c_parser_phrases.specs.declared.room.Room.{Room}
 use Rattle.c_parser_phrases.specs.declared.error.PhraseError.{PhraseError}
 use Rattle.c_parser_phrases.specs.declared.looking.Operator.{Operator}

@@ -14,21 +14,22 @@ use Rattle.c_syntax.specs.Tokens.{Is, IsKeyword, place}
 use Rattle.c_syntax.specs.Specifiers.{Consts}
 use Rattle.c_syntax.specs.Grammar.{conditional_level, assignment_level, Reads, HasName, IsThere, Declares, a_pointer, a_direct, ReadsCore, a_declared, declarator_in_parentheses, no_core, Lengthens, no_more, an_array, a_function}
 use Rattle.c_syntax.specs.Limits.{height_of_declarator}
-use Rattle.c_syntax.proofs.Precedence.{Stops}
-use Rattle.c_syntax.proofs.Ends.{start, started}
-use Rattle.c_syntax.proofs.FrontLemmas.{front_of_all}
-use Rattle.c_syntax.proofs.FrameGrammar.{lengthens_on, size_on, params_on}
-use Rattle.c_parser_refusals.specs.Fails.{Fails, then, One, one, NotAt}
-use Rattle.c_parser_refusals.specs.Phrases.{Bound, any, within, inner, fits_any, ASpec, ADeclarator, AnExpr, AnInit}
-use Rattle.c_parser_refusals.specs.Operands.{enclosed, AType, IsSomeName, Past}
-use Rattle.c_parser_refusals.specs.Specs.{are_consts}
-use Rattle.c_parser_refusals.specs.Declarators.{Carries, ADeclared, SomeLengthens, NoCore, SizeClosed, AParam, ParamsClosed, EachClosed, Lengthened}
-use Rattle.c_parser_refusals.proofs.Combine.{meets_itself, fails_at, fails_first, fails_later, fails_missing, missing}
-use Rattle.c_parser_refusals.specs.Initialisers.{InList, ListEnd}
-use Rattle.c_parser_refusals.proofs.Fixed.{expr_fixes, spec_fixes}
-use Rattle.c_parser_refusals.proofs.InitFails.{init_value_fails, no_init_left, init_list_fails, first_init_fails, first_init_leads, list_unclosed, list_goes_on}
-use Rattle.c_parser_refusals.proofs.SpecFails.{consts_fixes}
-use Rattle.c_parser_refusals.proofs.DeclaratorFails.{declared_fixes, declarator_fails_as, carries_name, carries_no_name, pointer_fails, no_declarator_left, named_fails, nameless_fails, declarator_tail_fails, nothing_inside, no_pair_for_declarator, no_pair_for_name, lengthened_fails, lengthened_too_high, bare_fails, bare_later_fails, bare_too_high, lengthens_wrong, array_fails, size_fails, function_fails, first_param_fails, first_param_leads, next_param_fails, next_param_leads, params_unclosed, type_fails}
+use Rattle.c_syntax_printing.specs.Ranks.{Stops}
+use Rattle.c_syntax_printing.specs.Starts.{start}
+use Rattle.c_syntax_printing.proofs.Ends.{started}
+use Rattle.c_syntax_printing.proofs.FrontLemmas.{front_of_all}
+use Rattle.c_syntax_printing.proofs.FrameGrammar.{lengthens_on, size_on, params_on}
+use Rattle.c_syntax_printing.specs.Fails.{Fails, then, One, one, NotAt}
+use Rattle.c_syntax_printing.specs.Phrases.{Bound, any, within, inner, fits_any, ASpec, ADeclarator, AnExpr, AnInit}
+use Rattle.c_syntax_printing.specs.Operands.{enclosed, AType, IsSomeName, Past}
+use Rattle.c_syntax_printing.specs.Specs.{are_consts}
+use Rattle.c_syntax_printing.specs.Declarators.{Carries, ADeclared, SomeLengthens, NoCore, SizeClosed, AParam, ParamsClosed, EachClosed, Lengthened}
+use Rattle.c_syntax_printing.proofs.Combine.{meets_itself, fails_at, fails_first, fails_later, fails_missing, missing}
+use Rattle.c_syntax_printing.specs.Initialisers.{InList, ListEnd}
+use Rattle.c_syntax_printing.proofs.Fixed.{expr_fixes, spec_fixes}
+use Rattle.c_syntax_printing.proofs.InitFails.{init_value_fails, no_init_left, init_list_fails, first_init_fails, first_init_leads, list_unclosed, list_goes_on}
+use Rattle.c_syntax_printing.proofs.SpecFails.{consts_fixes}
+use Rattle.c_syntax_printing.proofs.DeclaratorFails.{declared_fixes, declarator_fails_as, carries_name, carries_no_name, pointer_fails, no_declarator_left, named_fails, nameless_fails, declarator_tail_fails, nothing_inside, no_pair_for_declarator, no_pair_for_name, lengthened_fails, lengthened_too_high, bare_fails, bare_later_fails, bare_too_high, lengthens_wrong, array_fails, size_fails, function_fails, first_param_fails, first_param_leads, next_param_fails, next_param_leads, params_unclosed, type_fails}
 use Rattle.c_parser_phrases.specs.declared.room.Room.{Room}
 use Rattle.c_parser_phrases.specs.declared.form.Form.{Form}
 use Rattle.c_parser_phrases.specs.declared.form.Form.TheVariants.{Named, Abstract, Either}

@@ -5,20 +5,21 @@ use Rattle.c_lexer.specs.declared.punctuator.TheConstants.{LEFT_BRACE}
 use Rattle.c_syntax.specs.Tree.{Init, Inits, list}
 use Rattle.c_syntax.specs.Tokens.{Is}
 use Rattle.c_syntax.specs.Statements.{ReadsInit, an_expression, a_list, a_list_with_comma, ReadsInits, last_init, next_init}
-use Rattle.c_syntax.proofs.Precedence.{rank}
-use Rattle.c_syntax.proofs.Ranks.{ranked, heads}
-use Rattle.c_syntax.proofs.Heads.{head, headed, expression_head}
-use Rattle.c_syntax.proofs.OneDecl.{EndsList, brace_ends, comma_ends, after_comma, same_init}
-use Rattle.c_syntax.proofs.FrameStatements.{init_on}
-use Rattle.c_parser_refusals.specs.Fails.{Fails}
-use Rattle.c_parser_refusals.specs.Phrases.{Bound, AnInit}
-use Rattle.c_parser_refusals.proofs.Combine.{fails_at, fails_beside}
-use Rattle.c_parser_refusals.proofs.Fixed.{rank_alike}
+use Rattle.c_syntax_printing.specs.Ranks.{rank}
+use Rattle.c_syntax_printing.proofs.Ranks.{ranked, heads}
+use Rattle.c_syntax_printing.specs.Heads.{head}
+use Rattle.c_syntax_printing.proofs.Heads.{headed, expression_head}
+use Rattle.c_syntax_printing.proofs.OneDecl.{EndsList, brace_ends, comma_ends, after_comma, same_init}
+use Rattle.c_syntax_printing.proofs.FrameStatements.{init_on}
+use Rattle.c_syntax_printing.specs.Fails.{Fails}
+use Rattle.c_syntax_printing.specs.Phrases.{Bound, AnInit}
+use Rattle.c_syntax_printing.proofs.Combine.{fails_at, fails_beside}
+use Rattle.c_syntax_printing.proofs.Fixed.{rank_alike}
 use Rattle.c_parser_phrases.specs.declared.room.Room.{Room}
 use Rattle.c_parser_phrases.specs.Lists.{HasList}
 use Rattle.c_parser_phrases.specs.Standing.{IsAt}
 use Rattle.c_parser_phrases.proofs.Exits.{taken_at}
-use Rattle.c_syntax.proofs.OneDecl.{moved_inits}
+use Rattle.c_syntax_printing.proofs.OneDecl.{moved_inits}
 
 init_head : {d : ℕ} {a : Init} {i j : List Token} → ReadsInit d a i j → head i ≡ 5 → ⊥
 init_head (an_expression r p) h = omega (arith, expression_head r, h)

@@ -8,15 +8,15 @@ use Rattle.c_lexer.specs.declared.keyword.TheConstants.{CHAR, CONST, ENUM, INT, 
 use Rattle.c_syntax.specs.declared.tree.Ident.{Ident as IdentTree}
 use Rattle.c_syntax.specs.Tokens.{IsKeyword}
 use Rattle.c_syntax.specs.Specifiers.{Consts}
-use Rattle.c_syntax.proofs.Precedence.{rank, rank_of_kind}
-use Rattle.c_syntax.proofs.Ranks.{heads, ranked_name, ranked_int, ranked_char}
-use Rattle.c_syntax.proofs.Ends.{start, start_of_kind, EndsSpec}
-use Rattle.c_parser_refusals.specs.Fails.{Fails, One}
-use Rattle.c_parser_refusals.specs.Phrases.{ASpec}
-use Rattle.c_parser_refusals.specs.Operands.{IsSomeName}
-use Rattle.c_parser_refusals.specs.Specs.{AConsts, are_consts}
-use Rattle.c_parser_refusals.proofs.Combine.{fails_at, fails_first, fails_after, missing}
-use Rattle.c_parser_refusals.proofs.SpecFails.{consts_fail, void_fails, char_fails, int_fails, signed_fails, unsigned_fails, struct_fails, enum_fails, signed_bare, unsigned_bare, signed_int, unsigned_int_fails, unsigned_char_fails, end_fails, no_words}
+use Rattle.c_syntax_printing.specs.Ranks.{rank, rank_of_kind}
+use Rattle.c_syntax_printing.proofs.Ranks.{heads, ranked_name, ranked_int, ranked_char}
+use Rattle.c_syntax_printing.specs.Starts.{start, start_of_kind, EndsSpec}
+use Rattle.c_syntax_printing.specs.Fails.{Fails, One}
+use Rattle.c_syntax_printing.specs.Phrases.{ASpec}
+use Rattle.c_syntax_printing.specs.Operands.{IsSomeName}
+use Rattle.c_syntax_printing.specs.Specs.{AConsts, are_consts}
+use Rattle.c_syntax_printing.proofs.Combine.{fails_at, fails_first, fails_after, missing}
+use Rattle.c_syntax_printing.proofs.SpecFails.{consts_fail, void_fails, char_fails, int_fails, signed_fails, unsigned_fails, struct_fails, enum_fails, signed_bare, unsigned_bare, signed_int, unsigned_int_fails, unsigned_char_fails, end_fails, no_words}
 use Rattle.c_parser_phrases.specs.declared.error.PhraseError.TheVariants.{OutOfMemory, Syntax, Nesting}
 use Rattle.c_parser_phrases.specs.Standing.{IsAtKeyword, TookKeyword, TookName}
 use Rattle.c_parser_phrases.specs.Reading.{LeadsSpec, IsNoLeaf}

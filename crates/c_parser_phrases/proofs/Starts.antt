@@ -5,7 +5,7 @@ use Rattle.c_lexer.specs.declared.token.TokenKind.{TokenKind}
 use Rattle.c_lexer.specs.declared.token.TokenKind.TheVariants.{Name, Keyword, Int, Char, Str, Punct}
 use Rattle.c_lexer.specs.declared.punctuator.TheConstants.{LEFT_BRACKET, LEFT_PARENTHESIS, ASTERISK, INCREMENT, DECREMENT}
 use Rattle.c_lexer.specs.declared.keyword.TheConstants.{SIZEOF}
-use Rattle.c_syntax.proofs.Ends.{start, start_of_kind, start_of_code, start_of_word}
+use Rattle.c_syntax_printing.specs.Starts.{start, start_of_kind, start_of_code, start_of_word}
 use Rattle.c_parser_phrases.specs.Standing.{IsAt, IsAtKeyword}
 
 data CodeStart : ℕ → Type 0 where

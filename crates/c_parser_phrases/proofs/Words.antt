@@ -9,7 +9,7 @@ use Rattle.c_syntax.specs.Tokens.{IsKeyword, IsStr}
 use Rattle.c_syntax.specs.Specifiers.{Consts, a_const, ReadsSpec, is_signed, is_signed_int, is_unsigned, is_unsigned_int, is_struct, is_enum}
 use Rattle.c_syntax.specs.Grammar.{ReadsStrings}
 use Rattle.c_syntax.specs.View.{ident_of}
-use Rattle.c_syntax.proofs.Precedence.{rank}
+use Rattle.c_syntax_printing.specs.Ranks.{rank}
 use Rattle.c_parser_phrases.specs.Standing.{TookKeyword, TookName, TookString}
 use Rattle.c_parser_phrases.proofs.Growing.{consts_join, strings_more}
 

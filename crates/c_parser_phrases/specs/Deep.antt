@@ -2,7 +2,7 @@
 use Rattle.std.specs.Prelude.{◌≡◌, ◌⊎◌}
 use Rattle.c_syntax.specs.Tree.{Params}
 use Rattle.c_syntax.specs.View.{type_name_of, param_before}
-use Rattle.c_parser_refusals.specs.Nodes.{InExpr, InExprs, InMaybe, InType, InDeclarator, InParams}
+use Rattle.c_syntax_printing.specs.Nodes.{InExpr, InExprs, InMaybe, InType, InDeclarator, InParams}
 use Rattle.c_parser_phrases.specs.declared.depth.MeasuredExpr.{MeasuredExpr}
 use Rattle.c_parser_phrases.specs.declared.depth.MeasuredExprs.{MeasuredExprs}
 use Rattle.c_parser_phrases.specs.declared.depth.MeasuredSize.{MeasuredSize}

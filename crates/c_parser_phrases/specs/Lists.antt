@@ -12,7 +12,7 @@ use Rattle.c_syntax.specs.WritesUnit.{inits_of}
 use Rattle.c_parser_phrases.specs.declared.error.PhraseError.{PhraseError}
 use Rattle.c_parser_phrases.specs.declared.error.PhraseError.TheVariants.{Syntax, Nesting}
 use Rattle.c_parser_phrases.specs.declared.room.Room.{Room}
-use Rattle.c_parser_refusals.specs.Initialisers.{InList}
+use Rattle.c_syntax_printing.specs.Initialisers.{InList}
 use Rattle.c_parser_phrases.specs.Standing.{IsAt}
 use Rattle.c_parser_phrases.specs.Reading.{Refused, Lacks, OpensInits}
 

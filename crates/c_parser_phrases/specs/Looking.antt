@@ -7,8 +7,8 @@ use Rattle.c_lexer.specs.declared.punctuator.TheConstants.{LEFT_BRACKET, LEFT_PA
 use Rattle.c_lexer.specs.declared.keyword.TheConstants.{SIZEOF}
 use Rattle.c_syntax.specs.Tree.{Infix, and, or, operator, Prefix, pre_increment, pre_decrement}
 use Rattle.c_syntax.specs.Tokens.{Is, IsUnary, IsAssignment, IsInfix, code_of_infix, IsPrefix}
-use Rattle.c_syntax.proofs.Precedence.{rank, rank_of_kind}
-use Rattle.c_syntax.proofs.Ends.{start}
+use Rattle.c_syntax_printing.specs.Ranks.{rank, rank_of_kind}
+use Rattle.c_syntax_printing.specs.Starts.{start}
 use Rattle.c_parser_phrases.specs.declared.looking.Infix.{Infix as Between}
 use Rattle.c_parser_phrases.specs.declared.looking.Infix.TheVariants as b
 use Rattle.c_parser_phrases.specs.declared.looking.Operator.{Operator}

@@ -14,8 +14,8 @@ use Rattle.c_syntax.specs.Statements.{ReadsInit}
 use Rattle.c_syntax.specs.Limits.{height, height_of_declarator, height_of_init}
 use Rattle.c_syntax.specs.View.{spec_of, expr_of, declarator_of}
 use Rattle.c_syntax.specs.UnitView.{init_of}
-use Rattle.c_syntax.proofs.Precedence.{Stops}
-use Rattle.c_syntax.proofs.Ends.{EndsSpec, EndsDeclarator}
+use Rattle.c_syntax_printing.specs.Ranks.{Stops}
+use Rattle.c_syntax_printing.specs.Starts.{EndsSpec, EndsDeclarator}
 use Rattle.c_parser_phrases.specs.declared.room.Room.{Room}
 use Rattle.c_parser_phrases.specs.declared.error.PhraseError.{PhraseError}
 use Rattle.c_parser_phrases.specs.declared.error.PhraseError.TheVariants.{OutOfMemory, Syntax, Nesting}

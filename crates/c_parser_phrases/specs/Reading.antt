@@ -8,14 +8,14 @@ use Rattle.c_syntax.specs.Tokens.{Is, place}
 use Rattle.c_syntax.specs.Specifiers.{ReadsSpec, Consts}
 use Rattle.c_syntax.specs.Grammar.{Level, primary_level, postfix_level, unary_level, cast_level, binary_level, conditional_level, assignment_level, expression_level, HasName, HasNoName, IsThere, AreSome, Reads, ReadsList, Suffixes, ReadsSize, ReadsType, Declares, ReadsCore, Lengthens, ReadsParams}
 use Rattle.c_syntax.specs.View.{type_name_of, param_before}
-use Rattle.c_syntax.proofs.Precedence.{Stops}
-use Rattle.c_syntax.proofs.Ends.{start, EndsDeclarator, EndsSpec}
-use Rattle.c_parser_refusals.specs.Fails.{Fails}
-use Rattle.c_parser_refusals.specs.Phrases.{Bound, any, AnExpr, ASpec}
-use Rattle.c_parser_refusals.specs.Specs.{SpecEnd}
-use Rattle.c_parser_refusals.specs.Opens.{Opens, DeepExpr, DeepExprs, DeepType, DeepSuffixes, DeepDeclarator, DeepLengthens, DeepEach, DeepInit, DeepInits}
-use Rattle.c_parser_refusals.specs.Operands.{AType, SomeSuffixes, SomeArguments, ExprsRest, Past}
-use Rattle.c_parser_refusals.specs.Declarators.{ADeclared, SomeLengthens, NoCore, SizeClosed, AParam, ParamsClosed, EachClosed}
+use Rattle.c_syntax_printing.specs.Ranks.{Stops}
+use Rattle.c_syntax_printing.specs.Starts.{start, EndsDeclarator, EndsSpec}
+use Rattle.c_syntax_printing.specs.Fails.{Fails}
+use Rattle.c_syntax_printing.specs.Phrases.{Bound, any, AnExpr, ASpec}
+use Rattle.c_syntax_printing.specs.Specs.{SpecEnd}
+use Rattle.c_syntax_printing.specs.Opens.{Opens, DeepExpr, DeepExprs, DeepType, DeepSuffixes, DeepDeclarator, DeepLengthens, DeepEach, DeepInit, DeepInits}
+use Rattle.c_syntax_printing.specs.Operands.{AType, SomeSuffixes, SomeArguments, ExprsRest, Past}
+use Rattle.c_syntax_printing.specs.Declarators.{ADeclared, SomeLengthens, NoCore, SizeClosed, AParam, ParamsClosed, EachClosed}
 use Rattle.c_parser_phrases.specs.declared.error.PhraseError.{PhraseError}
 use Rattle.c_parser_phrases.specs.declared.error.PhraseError.TheVariants.{Syntax, Nesting}
 use Rattle.c_parser_phrases.specs.Refusing.{bound_of}

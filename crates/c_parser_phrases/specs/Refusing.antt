@@ -4,9 +4,9 @@ use Rattle.c_lexer.specs.declared.token.Token.{Token}
 use Rattle.c_parser_phrases.specs.declared.room.Room.{Room}
 use Rattle.c_parser_phrases.specs.declared.error.PhraseError.{PhraseError}
 use Rattle.c_parser_phrases.specs.declared.error.PhraseError.TheVariants.{OutOfMemory, Syntax, Nesting}
-use Rattle.c_parser_refusals.specs.Fails.{Fails}
-use Rattle.c_parser_refusals.specs.Opens.{Opens}
-use Rattle.c_parser_refusals.specs.Phrases.{Bound, any, within}
+use Rattle.c_syntax_printing.specs.Fails.{Fails}
+use Rattle.c_syntax_printing.specs.Opens.{Opens}
+use Rattle.c_syntax_printing.specs.Phrases.{Bound, any, within}
 
 -- what the room allows
 abbrev pub bound_of : Room → Bound

@@ -7,7 +7,7 @@ use Rattle.c_syntax.specs.Grammar.{ReadsStrings}
 use Rattle.dm_base.specs.declared.memory.OutOfMemory.{OutOfMemory}
 use Rattle.c_syntax.specs.Specifiers.{Names}
 use Rattle.c_syntax.specs.View.{ident_of}
-use Rattle.c_syntax.proofs.Precedence.{rank}
+use Rattle.c_syntax_printing.specs.Ranks.{rank}
 
 -- the punctuator stands first
 abbrev pub IsAt : ℕ → List Token → Type 0

@@ -1,8 +1,8 @@
 ghost use Rattle.std.specs.Prelude.{◌≡◌, ◌↔◌, ◌<◌, ◌-◌, IsTrue, OnOk, drop, length};
 ghost use Rattle.c_syntax.specs.Tokens.{Is, IsKeyword, place};
 ghost use Rattle.c_parser_phrases.specs.Phrases.{ParsesName};
-ghost use Rattle.c_parser_refusals.specs.Fails.{One};
-ghost use Rattle.c_parser_refusals.specs.Operands.{IsSomeName};
+ghost use Rattle.c_syntax_printing.specs.Fails.{One};
+ghost use Rattle.c_syntax_printing.specs.Operands.{IsSomeName};
 ghost use Rattle.c_parser_phrases.specs.Refusing.{StopsFlat};
 ghost use Rattle.c_parser_phrases.specs.Standing.{IsAt, IsAtKeyword, Took, TookKeyword};
 

@@ -7,9 +7,9 @@ ghost use Rattle.c_syntax.specs.View.{expr_of};
 ghost use Rattle.c_syntax.specs.UnitView.{init_of};
 ghost use Rattle.c_syntax.specs.WritesUnit.{inits_of};
 ghost use Rattle.c_parser_phrases.specs.Phrases.{ParsesInit};
-ghost use Rattle.c_parser_refusals.specs.Phrases.{AnInit};
+ghost use Rattle.c_syntax_printing.specs.Phrases.{AnInit};
 ghost use Rattle.c_parser_phrases.specs.Refusing.{bound_of, Stops, Nests};
-ghost use Rattle.c_parser_refusals.specs.Opens.{DeepInit};
+ghost use Rattle.c_syntax_printing.specs.Opens.{DeepInit};
 ghost use Rattle.c_parser_phrases.specs.Lists.{ListsInits, GoesOn};
 
 use crate::cursor::Cursor;

@@ -1,8 +1,8 @@
 // What stands first among the tokens that are left.
 
 ghost use Rattle.std.specs.Prelude.{◌≡◌, ◌⊎◌, ◌↔◌, ◌≤◌, ◌<◌, IsTrue, IfSome, drop, length};
-ghost use Rattle.c_syntax.proofs.Precedence.{rank, rank_of_code, rank_of_kind};
-ghost use Rattle.c_syntax.proofs.Ends.{start, start_of_code, start_of_word, start_of_kind, EndsDeclarator, EndsSpec};
+ghost use Rattle.c_syntax_printing.specs.Ranks.{rank, rank_of_code, rank_of_kind};
+ghost use Rattle.c_syntax_printing.specs.Starts.{start, start_of_code, start_of_word, start_of_kind, EndsDeclarator, EndsSpec};
 ghost use Rattle.c_parser_phrases.specs.Looking.{infix_of, between, StandsOperator, StandsSuffix, StandsAssignment, StandsUnary, StandsStep, StandsPrefix, IsAtSpecifier, IsAtCast, HasCode, OpensInside, IsDeepOrWrong, LacksPair, LacksDeclaratorPair};
 ghost use Rattle.c_parser_phrases.specs.Reading.{StandsAlone};
 
@@ -104,7 +104,7 @@ fn word_start(code: u8) -> u8
     }
 }
 
-#[tactic(auto, unfolding(c_syntax::proofs::Precedence::rank_of_kind))]
+#[tactic(auto, unfolding(c_syntax_printing::specs::Ranks::rank_of_kind))]
 fn kind_rank(kind: &TokenKind) -> u8
     ensures { result ≡ rank_of_kind kind.now }
 {
@@ -119,7 +119,7 @@ fn kind_rank(kind: &TokenKind) -> u8
 }
 
 // The number of the punctuator that a token is.
-#[tactic(auto, unfolding(c_syntax::proofs::Precedence::rank_of_kind))]
+#[tactic(auto, unfolding(c_syntax_printing::specs::Ranks::rank_of_kind))]
 fn code_of(kind: &TokenKind) -> Option<u8>
     ensures { HasCode result kind.now }
 {
@@ -133,7 +133,7 @@ fn code_of(kind: &TokenKind) -> Option<u8>
     }
 }
 
-#[tactic(auto, unfolding(c_syntax::proofs::Ends::start_of_kind))]
+#[tactic(auto, unfolding(c_syntax_printing::specs::Starts::start_of_kind))]
 fn kind_start(kind: &TokenKind) -> u8
     ensures { result ≡ start_of_kind kind.now }
 {

@@ -1,7 +1,7 @@
 // Names, constants and strings as operands (C99 6.5.1).
 
 ghost use Rattle.std.specs.Prelude.{◌≡◌, ◌<◌, ◌≤◌, OnOk, IfOk, length};
-ghost use Rattle.c_syntax.proofs.Precedence.{rank};
+ghost use Rattle.c_syntax_printing.specs.Ranks.{rank};
 ghost use Rattle.c_parser_phrases.specs.Reading.{ParsesLeaf, RefusesLeaf};
 ghost use Rattle.c_parser_phrases.specs.Deep.{IsDeep};
 ghost use Rattle.c_parser_phrases.specs.Standing.{TookString, TookStrings};

@@ -2,7 +2,7 @@ ghost use Rattle.std.specs.Prelude.{◌<◌, ◌≤◌, OnOk, IfOk, length};
 ghost use Rattle.c_syntax.specs.View.{spec_of};
 ghost use Rattle.c_parser_phrases.specs.Phrases.{ParsesSpec};
 ghost use Rattle.c_lexer.specs.declared.keyword.TheConstants.{CONST as CONST_WORD};
-ghost use Rattle.c_parser_refusals.specs.Phrases.{ASpec};
+ghost use Rattle.c_syntax_printing.specs.Phrases.{ASpec};
 ghost use Rattle.c_parser_phrases.specs.Standing.{IsAtKeyword};
 ghost use Rattle.c_parser_phrases.specs.Refusing.{StopsFlat};
 ghost use Rattle.c_parser_phrases.specs.Reading.{TookConsts, TookWords, LeadsSpec};

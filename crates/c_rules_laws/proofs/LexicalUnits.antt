@@ -17,8 +17,8 @@ use Rattle.c_syntax.specs.Grammar as grammar
 use Rattle.c_syntax.specs.Grammar.{Level, ReadsStrings, Reads, ReadsList, Suffixes, Chain, ReadsSize, ReadsType, Declares, ReadsCore, Lengthens, ReadsParams, ReadsEach}
 use Rattle.c_syntax.specs.Statements as stmts
 use Rattle.c_syntax.specs.Statements.{ReadsInit, ReadsInits, ReadsMaybeInit, ReadsParts, ReadsDecl, ReadsMaybe, ReadsFirst, ReadsLabels, ReadsStmt, ReadsBlockItems, ReadsStmts, ReadsGroups, ReadsDeclarators, ReadsMembers, ReadsEnumeratorValue, ReadsEnumerators, ReadsTag, ReadsItem, ReadsItems}
-use Rattle.c_syntax.proofs.FrontLemmas.{front_of_each}
-use Rattle.c_syntax.proofs.FrameSpecifiers.{spec_on}
+use Rattle.c_syntax_printing.proofs.FrontLemmas.{front_of_each}
+use Rattle.c_syntax_printing.proofs.FrameSpecifiers.{spec_on}
 use Rattle.c_rules.specs.Declarators.{name_of}
 use Rattle.c_rules_laws.specs.Lexical.{IsLexical, AreLexical, IsMaybeLexical, IsInitLexical, AreInitsLexical, IsMaybeInitLexical, ArePartsLexical, IsDeclLexical, IsFirstLexical, IsStmtLexical, AreItemsLexical, AreStmtsLexical, AreGroupsLexical, AreSomeMembers, IsNamed, IsItemLexical, IsUnitLexical}
 use Rattle.c_rules_laws.proofs.Holding.{Each}

@@ -14,7 +14,7 @@ use c_rules::{
     a_plain_program_calls_no_null_call, a_plain_unit_is_typed_alike_in_both_modes,
     a_unit_types_one_program,
 };
-use c_syntax::a_list_of_tokens_has_one_unit;
+use c_syntax_printing::a_list_of_tokens_has_one_unit;
 
 /// A law on texts: a text is accepted as one program at most in a mode.
 pub fn a_text_is_accepted_as_one_program()

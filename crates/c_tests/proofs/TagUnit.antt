@@ -8,7 +8,7 @@ use Rattle.c_syntax.specs.UnitView.{items_of}
 use Rattle.c_syntax.specs.Tree.{Ident, tag_item, no_items, more_items}
 use Rattle.c_syntax.specs.Statements.{ReadsItems, a_tag_alone, last_item}
 use Rattle.c_syntax.specs.Spelling.{IsUnit}
-use Rattle.c_syntax.proofs.LetterNames.{s_is_name}
+use Rattle.c_syntax_printing.proofs.LetterNames.{s_is_name}
 
 pub tag_unit : (x : Ident) → x ≡ record { name = 115 ∷ []; at = 7 } → IsUnit (more_items (tag_item 0 x) no_items)
 tag_unit x q =

@@ -1,4 +1,5 @@
-use c_syntax::{Ident, Item, ItemKind, Unit, print};
+use c_syntax::{Ident, Item, ItemKind, Unit};
+use c_syntax_printing::print;
 use dm_base::Bytes;
 use std::alloc::Global;
 use std::test::Fail;

@@ -7,7 +7,7 @@ use Rattle.std.proofs.lemmas.List.{take_more, take_all, take-append-le, length-a
 use Rattle.c_tree.specs.Functions.{defined}
 use Rattle.std.proofs.lemmas.List.Elements.{Contains-append_left, Contains-push, Contains-push_cases}
 use Rattle.c_tree.specs.Tree.{CType, Function, Program}
-use Rattle.c_shapes.specs.Mentions.{Mention, mentions_of_function}
+use Rattle.c_meaning_laws.specs.Mentions.{Mention, mentions_of_function}
 use Rattle.call_graph.specs.declared.mention.Mention.{Mention as Told}
 use Rattle.dm_base.specs.Adding.{Has, Adds, Gains}
 use Rattle.call_graph.specs.Saying.{mention_of, said}

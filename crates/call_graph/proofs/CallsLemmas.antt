@@ -5,8 +5,8 @@ use Rattle.std.specs.List.{list_any}
 use Rattle.std.proofs.lemmas.Bool.{lt-ltb, ltb-true}
 use Rattle.c_tree.specs.Tree.{Program}
 use Rattle.c_tree.specs.Functions.{defined}
-use Rattle.c_shapes.specs.Mentions.{Direct, Through, mentions_of_program}
-use Rattle.c_shapes.specs.CallGraph.{is_taken, reaches, callees, callee_at, has_one, marked, marked_where, candidates, called_where}
+use Rattle.c_meaning_laws.specs.Mentions.{Direct, Through, mentions_of_program}
+use Rattle.c_meaning_laws.specs.CallGraph.{is_taken, reaches, callees, callee_at, has_one, marked, marked_where, candidates, called_where}
 use Rattle.call_graph.specs.declared.calls.Calls.{Calls}
 use Rattle.call_graph.specs.declared.sites.Place.{Place}
 use Rattle.call_graph.specs.declared.sites.Place.TheVariants.{Function, Pointer}

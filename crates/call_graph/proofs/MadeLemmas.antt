@@ -5,8 +5,8 @@ use Rattle.std.proofs.lemmas.Bool.{cases_lt}
 use Rattle.c_tree.specs.Tree.{CType, Program}
 use Rattle.c_tree.specs.Functions.{defined}
 use Rattle.c_tree.specs.Program.{IsProgram}
-use Rattle.c_shapes.specs.Mentions.{Callee, Direct, Through, Named, Calls as CallsAt, mentions_of_program}
-use Rattle.c_shapes.specs.CallGraph.{callees, callee_at}
+use Rattle.c_meaning_laws.specs.Mentions.{Callee, Direct, Through, Named, Calls as CallsAt, mentions_of_program}
+use Rattle.c_meaning_laws.specs.CallGraph.{callees, callee_at}
 use Rattle.call_graph.specs.declared.calls.Calls.{Calls}
 use Rattle.call_graph.specs.declared.sites.Place.{Place}
 use Rattle.call_graph.specs.Calls.{AreCallsOf, IsPlace, IsList, place_at}

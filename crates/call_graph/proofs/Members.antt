@@ -4,9 +4,9 @@ use Rattle.std.specs.List.{list_any}
 use Rattle.std.proofs.lemmas.Bool.{eq-eqb, eqb-true, false≢true}
 use Rattle.std.proofs.lemmas.List.Elements.{Contains-append_left, Contains-push, Contains-push_cases}
 use Rattle.indexmap.specs.IndexSet.{insert_key}
-use Rattle.c_shapes.specs.CallGraph.{is_in, has_one}
+use Rattle.c_meaning_laws.specs.CallGraph.{is_in, has_one}
 use Rattle.dm_base.specs.Adding.{Has, Adds}
-use Rattle.c_shapes.proofs.Members.{or_left, or_right, or_cases}
+use Rattle.c_meaning_laws.proofs.Members.{or_left, or_right, or_cases}
 
 -- a list with an item before it
 pub contains-cons : {X : Type 0} (y x : X) (xs : List X) → Contains xs x → Contains (y ∷ xs) x

@@ -7,7 +7,7 @@ use Rattle.std.proofs.lemmas.Option.{get_or_from_slice_get}
 use Rattle.c_tree.specs.declared.tree.CType.{CType as TypeTree}
 use Rattle.c_tree.specs.Tree.{CType}
 use Rattle.c_tree.specs.View.{ctype_of}
-use Rattle.c_shapes.specs.Mentions.{Callee, Through, Mention, Named, Calls}
+use Rattle.c_meaning_laws.specs.Mentions.{Callee, Through, Mention, Named, Calls}
 use Rattle.call_graph.specs.declared.mention.Mention.{Mention as Told}
 use Rattle.dm_base.specs.Adding.{Has, Adds}
 use Rattle.call_graph.specs.Saying.{mention_of, said}

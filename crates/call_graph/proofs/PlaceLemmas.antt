@@ -3,8 +3,8 @@ use Rattle.std.proofs.Common.{◌≡◌, ℕ, ◌+◌, ◌<◌, ◌≤◌, Bool,
 use Rattle.std.specs.Prelude.{if◌then◌else◌}
 use Rattle.std.proofs.lemmas.List.{take_more, take_all, map-append}
 use Rattle.c_tree.specs.Tree.{CType}
-use Rattle.c_shapes.specs.Mentions.{Callee, Direct, Through, Mention, Named, Calls}
-use Rattle.c_shapes.specs.CallGraph.{callee_at}
+use Rattle.c_meaning_laws.specs.Mentions.{Callee, Direct, Through, Mention, Named, Calls}
+use Rattle.c_meaning_laws.specs.CallGraph.{callee_at}
 use Rattle.call_graph.specs.declared.mention.Mention.{Mention as Said}
 use Rattle.call_graph.specs.declared.sites.Place.{Place}
 use Rattle.call_graph.specs.Saying.{mention_of, said}

@@ -7,10 +7,10 @@ use Rattle.std.proofs.lemmas.Option.{slice_get_within}
 use Rattle.std.proofs.lemmas.List.Elements.{Contains-append_left, Contains-append_right}
 use Rattle.c_tree.specs.Tree.{CType, Function, Program}
 use Rattle.c_tree.specs.Functions.{defined, value_type}
-use Rattle.c_shapes.specs.Mentions.{Direct, Through, Mention, Named, Calls, mentions_of_function, mentions_of_program}
-use Rattle.c_shapes.specs.CallGraph.{same_type, is_in, has_one, is_taken, is_typed, functions_of, callees, enters, said_by, one_round, reaching, reaches}
-use Rattle.c_shapes.proofs.Rounds.{enough}
-use Rattle.c_shapes.proofs.SameTypes.{types_tell}
+use Rattle.c_meaning_laws.specs.Mentions.{Direct, Through, Mention, Named, Calls, mentions_of_function, mentions_of_program}
+use Rattle.c_meaning_laws.specs.CallGraph.{same_type, is_in, has_one, is_taken, is_typed, functions_of, callees, enters, said_by, one_round, reaching, reaches}
+use Rattle.c_meaning_laws.proofs.Rounds.{enough}
+use Rattle.c_meaning_laws.proofs.SameTypes.{types_tell}
 use Rattle.call_graph.specs.Types.{first_place}
 use Rattle.call_graph.specs.Callers.{HasCaller, node_called, IsCallBelow, IsCandidateBelow, AreCallers, Leads, IsReaching}
 use Rattle.call_graph.specs.Callers.Leads.{here, on}

@@ -8,7 +8,7 @@ use Rattle.dm_base.specs.declared.memory.OutOfMemory.{OutOfMemory}
 use Rattle.std.proofs.lemmas.List.Folds.{flat_map-map}
 use Rattle.c_tree.specs.declared.tree.Function.{Function as FunctionTree}
 use Rattle.c_tree.specs.declared.tree.Static.{Static as StaticTree}
-use Rattle.c_shapes.specs.Mentions.{mentions_of_function, mentions_of_static}
+use Rattle.c_meaning_laws.specs.Mentions.{mentions_of_function, mentions_of_static}
 use Rattle.std.specs.Prelude.{Box}
 use Rattle.c_tree.specs.declared.tree.TExpr.{TExpr}
 use Rattle.c_tree.specs.declared.tree.TExprKind.TheVariants.{Comma, Call, CallThrough}
@@ -18,7 +18,7 @@ use Rattle.c_tree.specs.declared.tree.TStmt.{TStmt}
 use Rattle.c_tree.specs.declared.tree.TGroup.{TGroup}
 use Rattle.c_tree.specs.View.{ctype_of, expr_with, expr_of, exprs_of, maybe_of, inits_of, stmt_of, stmts_of, groups_of, function_of, static_of}
 use Rattle.c_tree.proofs.Rows.{comma_is, call_is, call_through_is, block_is, for_is, switch_is}
-use Rattle.c_shapes.specs.Mentions.{Mention, Calls, Direct, Through, mentions, mentions_of_all, mentions_of_maybe, mentions_of_inits, mentions_of_stmt, mentions_of_stmts, mentions_of_groups}
+use Rattle.c_meaning_laws.specs.Mentions.{Mention, Calls, Direct, Through, mentions, mentions_of_all, mentions_of_maybe, mentions_of_inits, mentions_of_stmt, mentions_of_stmts, mentions_of_groups}
 use Rattle.c_tree.proofs.CalledTypes.{type_is}
 pub use Rattle.dm_base.proofs.ListLemmas.{two_parts}
 

@@ -5,11 +5,11 @@ use Rattle.std.specs.List.{range_with_len}
 use Rattle.std.proofs.lemmas.Bool.{eq-eqb, eqb-true, false≢true}
 use Rattle.c_tree.specs.Tree.{Program}
 use Rattle.c_tree.specs.Program.{IsProgram}
-use Rattle.c_shapes.specs.Mentions.{Callee, Mention, Named, Calls, mentions_of_program}
-use Rattle.c_shapes.specs.CallGraph.{names, is_taken, has_one, callee_at}
+use Rattle.c_meaning_laws.specs.Mentions.{Callee, Mention, Named, Calls, mentions_of_program}
+use Rattle.c_meaning_laws.specs.CallGraph.{names, is_taken, has_one, callee_at}
 use Rattle.call_graph.proofs.Members.{contains-cons, contains-here, one_from, one_to}
 use Rattle.call_graph.proofs.ReachingLemmas.{range_from}
-use Rattle.c_shapes.proofs.SitesSaid.{sites_in, in_program, site_among}
+use Rattle.c_meaning_laws.proofs.SitesSaid.{sites_in, in_program, site_among}
 
 -- where a call is found
 found_by : (s r : ℕ) (c callee : Callee) (ms : List Mention) (b : Bool) → nat_eq s r ≡ b → (if b then Some c else callee_at s ms) ≡ Some callee → (callee_at s ms ≡ Some callee → Contains ms (Calls s callee)) → Contains (Calls r c ∷ ms) (Calls s callee)

@@ -10,9 +10,9 @@ use Rattle.c_tree.specs.declared.tree.CType.{CType as TypeTree}
 use Rattle.c_tree.specs.Tree.{CType, pointer, more_types, Function, Program}
 use Rattle.c_tree.specs.View.{ctype_of, ctypes_of, types_of}
 use Rattle.c_tree.specs.Functions.{defined, sys_types, type_of_defined, value_type}
-use Rattle.c_shapes.specs.Mentions.{Through}
-use Rattle.c_shapes.specs.CallGraph.{same_type, is_taken, is_typed, functions_of, callees}
-use Rattle.c_shapes.proofs.SameTypes.{types_tell}
+use Rattle.c_meaning_laws.specs.Mentions.{Through}
+use Rattle.c_meaning_laws.specs.CallGraph.{same_type, is_taken, is_typed, functions_of, callees}
+use Rattle.c_meaning_laws.proofs.SameTypes.{types_tell}
 use Rattle.c_tree.specs.declared.prototypes.PrototypeType.{PrototypeType}
 use Rattle.c_tree.specs.Prototypes.{type_meant, types_meant}
 use Rattle.call_graph.specs.Types.{types_at, first_place}

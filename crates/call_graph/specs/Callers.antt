@@ -3,7 +3,7 @@ use Rattle.std.specs.Prelude.{◌≡◌, ◌⊎◌, ◌↔◌, ℕ, ◌+◌, ◌
 use Rattle.std.specs.Global.{Global}
 use Rattle.c_tree.specs.Tree.{CType, Function, Program}
 use Rattle.c_tree.specs.Functions.{defined}
-use Rattle.c_shapes.specs.Mentions.{Mention, Named, Calls, Direct, Through, mentions_of_function}
+use Rattle.c_meaning_laws.specs.Mentions.{Mention, Named, Calls, Direct, Through, mentions_of_function}
 use Rattle.dm_base.specs.Adding.{Has}
 use Rattle.call_graph.specs.Types.{first_place}
 

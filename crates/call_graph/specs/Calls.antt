@@ -3,8 +3,8 @@ use Rattle.std.specs.Prelude.{◌≡◌, ◌↔◌, ℕ, ◌+◌, ◌<◌, ◌^�
 use Rattle.std.specs.Global.{Global}
 use Rattle.c_tree.specs.Tree.{CType, Program}
 use Rattle.c_tree.specs.Functions.{defined}
-use Rattle.c_shapes.specs.Mentions.{Callee, Direct, Through, mentions_of_program}
-use Rattle.c_shapes.specs.CallGraph.{is_taken, reaches, callees, callee_at, has_one}
+use Rattle.c_meaning_laws.specs.Mentions.{Callee, Direct, Through, mentions_of_program}
+use Rattle.c_meaning_laws.specs.CallGraph.{is_taken, reaches, callees, callee_at, has_one}
 use Rattle.call_graph.specs.declared.calls.Calls.{Calls}
 use Rattle.call_graph.specs.declared.sites.Place.{Place}
 use Rattle.call_graph.specs.declared.sites.Place.TheVariants.{Function, Pointer}

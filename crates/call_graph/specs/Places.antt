@@ -1,7 +1,7 @@
 -- For private contracts and proofs alone: what is called at sites.
 use Rattle.std.specs.Prelude.{Bool, true, false, List, [], ◌∷◌, Option, None, Some}
 use Rattle.c_tree.specs.Tree.{CType}
-use Rattle.c_shapes.specs.Mentions.{Mention, Callee, Direct, Through}
+use Rattle.c_meaning_laws.specs.Mentions.{Mention, Callee, Direct, Through}
 use Rattle.call_graph.specs.declared.sites.Place.{Place}
 use Rattle.call_graph.specs.declared.sites.Place.TheVariants.{Function, Pointer}
 use Rattle.call_graph.specs.Types.{first_place}

@@ -1,8 +1,8 @@
 -- What the code's mentions stand for.
 use Rattle.std.specs.Prelude.{List, map}
 use Rattle.c_tree.specs.View.{ctype_of}
-use Rattle.c_shapes.specs.Mentions as term
-use Rattle.c_shapes.specs.Mentions.{Direct, Through}
+use Rattle.c_meaning_laws.specs.Mentions as term
+use Rattle.c_meaning_laws.specs.Mentions.{Direct, Through}
 use Rattle.call_graph.specs.declared.mention.Mention.{Mention}
 use Rattle.call_graph.specs.declared.mention.Mention.TheVariants as m
 

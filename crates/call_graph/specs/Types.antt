@@ -5,8 +5,8 @@ use Rattle.std.specs.Borrow.{Bor}
 use Rattle.c_tree.specs.declared.tree.CType.{CType as TypeTree}
 use Rattle.c_tree.specs.View.{ctype_of}
 use Rattle.c_tree.specs.Tree.{CType, Program}
-use Rattle.c_shapes.specs.CallGraph.{same_type, is_taken}
-use Rattle.c_shapes.specs.Mentions.{Mention, Calls, Through}
+use Rattle.c_meaning_laws.specs.CallGraph.{same_type, is_taken}
+use Rattle.c_meaning_laws.specs.Mentions.{Mention, Calls, Through}
 
 -- where the type stands first, or the number of types
 abbrev pub first_place : CType → List CType → ℕ

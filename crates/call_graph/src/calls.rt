@@ -2,7 +2,7 @@ ghost use Rattle.std.specs.Prelude.{◌≡◌, ◌+◌, ◌<◌, IfOk};
 ghost use Rattle.c_tree.specs.Functions.{defined};
 ghost use Rattle.c_tree.specs.Tree.{Program as Tree};
 ghost use Rattle.c_tree.specs.View.{program_of};
-ghost use Rattle.c_shapes.specs.CallGraph.{is_taken, reaches, candidates, marked};
+ghost use Rattle.c_meaning_laws.specs.CallGraph.{is_taken, reaches, candidates, marked};
 ghost use Rattle.call_graph.specs.Calls.{AreCallsOf, place_at};
 
 use crate::callers::callers_of;

@@ -1,5 +1,5 @@
 ghost use Rattle.std.specs.Prelude.{◌≡◌, ◌↔◌, ℕ, Contains, OnOk, IfOk};
-ghost use Rattle.c_shapes.specs.Mentions.{Named};
+ghost use Rattle.c_meaning_laws.specs.Mentions.{Named};
 ghost use Rattle.dm_base.specs.Adding.{Adds};
 ghost use Rattle.call_graph.specs.Saying.{mention_of, said};
 

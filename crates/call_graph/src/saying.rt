@@ -1,6 +1,6 @@
 ghost use Rattle.std.specs.Prelude.{◌≡◌, ◌++◌, ◌∷◌, [], IfOk, OnOk, map, flat_map};
 ghost use Rattle.c_tree.specs.View.{expr_of, exprs_of, maybe_of, inits_of, stmt_of, stmts_of, groups_of, function_of, static_of, program_of};
-ghost use Rattle.c_shapes.specs.Mentions.{mentions, mentions_of_all, mentions_of_maybe, mentions_of_inits, mentions_of_stmt, mentions_of_stmts, mentions_of_groups, mentions_of_function, mentions_of_static, mention_of_cell, mentions_of_program};
+ghost use Rattle.c_meaning_laws.specs.Mentions.{mentions, mentions_of_all, mentions_of_maybe, mentions_of_inits, mentions_of_stmt, mentions_of_stmts, mentions_of_groups, mentions_of_function, mentions_of_static, mention_of_cell, mentions_of_program};
 ghost use Rattle.call_graph.specs.Saying.{mention_of, said};
 
 use crate::mention::Mention;

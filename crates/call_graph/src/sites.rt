@@ -1,5 +1,5 @@
 ghost use Rattle.std.specs.Prelude.{◌≡◌, ◌<◌, ℕ, nat_eq, None, Some, length, slice_index_or, IfOk, if◌then◌else◌};
-ghost use Rattle.c_shapes.specs.CallGraph.{callee_at};
+ghost use Rattle.c_meaning_laws.specs.CallGraph.{callee_at};
 ghost use Rattle.call_graph.specs.declared.sites.Place.{Place as Placed};
 ghost use Rattle.call_graph.specs.Saying.{mention_of, said};
 ghost use Rattle.call_graph.specs.Types.{types_at};

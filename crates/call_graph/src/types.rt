@@ -2,8 +2,8 @@ ghost use Rattle.std.specs.Prelude.{◌≡◌, ◌+◌, ◌<◌, ◌&&◌, ℕ, 
 ghost use Rattle.c_tree.specs.Functions.{defined, value_type, sys_types};
 ghost use Rattle.c_tree.specs.Tree.{CType as TypeTerm, pointer};
 ghost use Rattle.c_tree.specs.View.{ctype_of, ctypes_of, program_of};
-ghost use Rattle.c_shapes.specs.CallGraph.{is_taken, is_typed, callees};
-ghost use Rattle.c_shapes.specs.Mentions.{Calls, Through};
+ghost use Rattle.c_meaning_laws.specs.CallGraph.{is_taken, is_typed, callees};
+ghost use Rattle.c_meaning_laws.specs.Mentions.{Calls, Through};
 ghost use Rattle.dm_base.specs.Adding.{Adds};
 ghost use Rattle.call_graph.specs.Saying.{mention_of, said};
 ghost use Rattle.call_graph.specs.Types.{types_at, items_of, first_place, IsThrough, AreTaken};

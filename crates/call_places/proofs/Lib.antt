@@ -1,3 +1,5 @@
 mod Lists
 mod Nodes
 mod Rows
+mod Callers
+mod Counted

@@ -3,3 +3,4 @@
 pub mod CallPlaces
 pub mod Places
 pub mod Seen
+pub mod AreSites

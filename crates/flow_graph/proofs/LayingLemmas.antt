@@ -7,9 +7,9 @@ use Rattle.flow_graph.proofs.Rows.{seq_is, cases_is}
 use Rattle.std.proofs.lemmas.List.{append-nil, append_assoc, length-drop}
 use Rattle.flow_graph.specs.declared.shape.Shape.{Shape as Tree}
 use Rattle.flow_graph.specs.View.{shape_of, parts_of}
-use Rattle.c_shapes.specs.Shape.{Seq, Cases, End, Part}
-use Rattle.c_shapes.specs.Walks.{Silent}
-use Rattle.flow_graph_laws.specs.Layout.{Edge, edge, Places, head, width, widths, count, edges, edges_of_parts, to_each}
+use Rattle.c_meaning_laws.specs.Shape.{Seq, Cases, End, Part}
+use Rattle.c_meaning_laws.specs.Walks.{Silent}
+use Rattle.c_meaning_laws.specs.GraphLayout.{Edge, edge, Places, head, width, widths, count, edges, edges_of_parts, to_each}
 
 pub parts_many : (ts : List Tree) → count (parts_of ts) ≡ length ts
 parts_many [] = refl

@@ -10,9 +10,9 @@ use Rattle.c_tree.specs.Tree.{Function, Program}
 use Rattle.c_tree.specs.Functions.{defined}
 use Rattle.c_tree.specs.Program.{IsProgram}
 use Rattle.c_tree.specs.View.{stmt_of, function_of}
-use Rattle.c_shapes.specs.Shape.{Shape}
-use Rattle.c_shapes.specs.CallGraph.{marked, marked_where}
-use Rattle.c_shapes.specs.ShapeOf.{any_call, taken_calls, shapes_of_functions}
+use Rattle.c_meaning_laws.specs.Shape.{Shape}
+use Rattle.c_meaning_laws.specs.CallGraph.{marked, marked_where}
+use Rattle.c_meaning_laws.specs.ShapeOf.{any_call, taken_calls, shapes_of_functions}
 use Rattle.call_graph.proofs.SitesLemmas.{no_site}
 use Rattle.flow_graph.specs.declared.shape.Shape.{Shape as Tree}
 use Rattle.flow_graph.specs.View.{shape_of, shapes_in}

@@ -1,12 +1,12 @@
 ghost use Rattle.std.specs.Prelude.{◌≡◌, ◌<◌, ◌≤◌, OnOk, IfOk, IfErr};
 ghost use Rattle.c_tree.specs.View.{program_of};
-ghost use Rattle.c_shapes.specs.ProgramLanguages as programs;
+ghost use Rattle.c_meaning_laws.specs.ProgramLanguages as programs;
 ghost use Rattle.call_graph.specs.Calls.{AreCallsOf};
 ghost use Rattle.flow_model.specs.declared.which.Which.TheVariants.{Callgraph, Stack, Dyck};
 ghost use Rattle.flow_model.specs.Language.{Reads};
 ghost use Rattle.flow_model.specs.Rules.{IsValid};
-ghost use Rattle.flow_graph_laws.specs.Equal.{AreEqual};
-ghost use Rattle.flow_graph_laws.specs.GraphOfProgram.{graph_of_program};
+ghost use Rattle.c_meaning_laws.specs.Equal.{AreEqual};
+ghost use Rattle.c_meaning_laws.specs.GraphOfProgram.{graph_of_program};
 
 use crate::programs::shapes_of_functions;
 use crate::{BuildError, model_of_shapes};

@@ -1,9 +1,9 @@
 ghost use Rattle.std.specs.Prelude.{◌≡◌, ◌++◌, map, OnOk, IfOk};
 ghost use Rattle.std.specs.Ordering.{nat_cmp};
 ghost use Rattle.c_tree.specs.View.{program_of};
-ghost use Rattle.c_shapes.specs.ShapeOf.{taken_calls, candidate_places};
+ghost use Rattle.c_meaning_laws.specs.ShapeOf.{taken_calls, candidate_places};
 ghost use Rattle.call_graph.specs.Calls.{AreCallsOf};
-ghost use Rattle.flow_graph_laws.specs.Sorted.{sorted};
+ghost use Rattle.c_meaning_laws.specs.Sorted.{sorted};
 ghost use Rattle.flow_graph.specs.Places.{call_of};
 
 use crate::places::places_of;

@@ -1,6 +1,6 @@
 ghost use Rattle.std.specs.Prelude.{◌≡◌, ◌∷◌, ◌++◌, [], ℕ, false, slice_index_or, OnOk, IfOk};
 ghost use Rattle.c_tree.specs.View.{program_of};
-ghost use Rattle.c_shapes.specs.CallGraph.{marked};
+ghost use Rattle.c_meaning_laws.specs.CallGraph.{marked};
 ghost use Rattle.call_graph.specs.Calls.{AreCallsOf};
 
 use c_tree::Program;

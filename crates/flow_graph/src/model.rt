@@ -1,24 +1,24 @@
 ghost use Rattle.std.specs.Prelude.{◌≡◌, ◌<◌, ◌≤◌, OnOk, IfOk, IfErr};
 ghost use Rattle.c_tree.specs.View.{program_of};
-ghost use Rattle.c_shapes.specs.ShapeOf.{shapes_of_functions};
-ghost use Rattle.c_shapes.specs.ProgramLanguages as programs;
+ghost use Rattle.c_meaning_laws.specs.ShapeOf.{shapes_of_functions};
+ghost use Rattle.c_meaning_laws.specs.ProgramLanguages as programs;
 ghost use Rattle.call_graph.specs.Calls.{AreCallsOf};
 ghost use Rattle.flow_graph.specs.View.{shapes_in};
 ghost use Rattle.flow_model.specs.declared.which.Which.TheVariants.{Callgraph, Stack, Dyck};
 ghost use Rattle.flow_model.specs.Language.{Reads};
 ghost use Rattle.flow_model.specs.Rules.{IsValid};
-ghost use Rattle.flow_graph_laws.specs.Equal.{AreEqual};
-ghost use Rattle.flow_graph_laws.specs.GraphOf.{nodes_from};
-ghost use Rattle.flow_graph_laws.specs.GraphOfProgram.{graph_of_program};
+ghost use Rattle.c_meaning_laws.specs.Equal.{AreEqual};
+ghost use Rattle.c_meaning_laws.specs.GraphOf.{nodes_from};
+ghost use Rattle.c_meaning_laws.specs.GraphOfProgram.{graph_of_program};
 
 use crate::BuildError;
 use crate::functions::nodes_of;
 use crate::records::builder_of;
 use crate::shape::Shape;
+use c_meaning_laws::{program_graph_has_the_words, program_graph_is_valid};
 use c_tree::Program;
 use call_graph::Calls;
 use dm_base::OutOfMemory;
-use flow_graph_laws::{program_graph_has_the_words, program_graph_is_valid};
 use flow_model::{FinishError, Model};
 use std::alloc::Global;
 

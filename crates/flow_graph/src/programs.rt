@@ -2,7 +2,7 @@ ghost use Rattle.std.specs.Prelude.{◌≡◌, ◌<◌, ◌++◌, ◌∷◌, [],
 ghost use Rattle.c_tree.specs.Functions.{defined};
 ghost use Rattle.c_tree.specs.Tree.{Function};
 ghost use Rattle.c_tree.specs.View.{program_of};
-ghost use Rattle.c_shapes.specs.ShapeOf.{shapes_of_functions, any_call, taken_calls};
+ghost use Rattle.c_meaning_laws.specs.ShapeOf.{shapes_of_functions, any_call, taken_calls};
 ghost use Rattle.call_graph.specs.Calls.{AreCallsOf};
 ghost use Rattle.flow_graph.specs.View.{shape_of, shapes_in};
 ghost use Rattle.flow_graph.specs.Sited.{stmt_at};

@@ -1,11 +1,11 @@
 ghost use Rattle.std.specs.Prelude.{◌≡◌, ◌<◌, ◌^◌, ◌++◌, map, OnOk, IfOk};
 ghost use Rattle.c_tree.specs.View.{program_of};
-ghost use Rattle.c_shapes.specs.ShapeOf.{shapes_of_functions, names_of_functions, taken_calls, candidate_places};
+ghost use Rattle.c_meaning_laws.specs.ShapeOf.{shapes_of_functions, names_of_functions, taken_calls, candidate_places};
 ghost use Rattle.call_graph.specs.Calls.{AreCallsOf};
 ghost use Rattle.flow_graph.specs.View.{shapes_in};
 ghost use Rattle.flow_model.specs.Order.{silent_order, sys_order};
-ghost use Rattle.flow_graph_laws.specs.GraphOf.{functions_from, edges_from, nodes_from, silent_edges, sys_edges};
-ghost use Rattle.flow_graph_laws.specs.Sorted.{sorted};
+ghost use Rattle.c_meaning_laws.specs.GraphOf.{functions_from, edges_from, nodes_from, silent_edges, sys_edges};
+ghost use Rattle.c_meaning_laws.specs.Sorted.{sorted};
 ghost use Rattle.flow_graph.specs.Places.{call_of};
 ghost use Rattle.flow_graph.specs.SiteEdges.{site_edges, site_edge_order};
 

@@ -1,6 +1,6 @@
 ghost use Rattle.std.specs.Prelude.{◌≡◌, ◌++◌, ◌∷◌, [], OnOk, IfOk, if◌then◌else◌};
 ghost use Rattle.c_tree.specs.View.{program_of};
-ghost use Rattle.c_shapes.specs.ShapeOf.{taken_calls};
+ghost use Rattle.c_meaning_laws.specs.ShapeOf.{taken_calls};
 ghost use Rattle.call_graph.specs.Calls.{AreCallsOf};
 
 use c_tree::Program;

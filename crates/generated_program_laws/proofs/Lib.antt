@@ -5,3 +5,6 @@ pub mod Definitions
 pub mod Typed
 pub mod Written
 pub mod Read
+pub mod Reached
+pub mod Laid
+pub mod Counted

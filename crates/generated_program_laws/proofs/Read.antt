@@ -5,7 +5,7 @@ use Rattle.c_syntax.specs.Spelling.{IsReadAs}
 use Rattle.c_syntax.specs.Text.{unit_text}
 use Rattle.c_syntax.specs.Tree.{Items}
 use Rattle.c_syntax.proofs.HeightLemmas.{same_height}
-use Rattle.c_syntax_laws.specs.Laws.{WritableUnitsAreReadBack}
+use Rattle.c_syntax_printing.specs.Laws.{WritableUnitsAreReadBack}
 use Rattle.c_rules.specs.Accepted.{IsAcceptedAs}
 use Rattle.c_rules_laws.specs.PlaceLaws.{UnitsAreTypedAlike}
 use Rattle.generated_program.specs.Generator.{generated_unit, generated_source}

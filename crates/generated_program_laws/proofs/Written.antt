@@ -11,8 +11,8 @@ use Rattle.c_syntax.specs.Print.{unit_kinds}
 use Rattle.c_syntax.specs.Text.{unit_text}
 use Rattle.c_syntax.specs.Tokens.IsAssignment.{assigns}
 use Rattle.c_syntax.specs.Tokens.IsInfix.{is_less}
-use Rattle.c_syntax.proofs.FineUnits.{IsFineItem, AreFineItems, AreSomeItems}
-use Rattle.c_syntax_laws.specs.Writable.{IsWritableItem, AreWritableItems}
+use Rattle.c_syntax_printing.specs.FineUnits.{IsFineItem, AreFineItems, AreSomeItems}
+use Rattle.c_syntax_printing.specs.Writable.{IsWritableItem, AreWritableItems}
 use Rattle.generated_program.specs.Generator.{drawn, called_by, system_call_by, later_function, main_function, functions_behind, main_items, generated_unit}
 use Rattle.generated_program.specs.Pieces.{front_text, function_text, main_text}
 use Rattle.generated_program.proofs.TextLemmas.{front_written, function_written, main_written, text_of}

@@ -6,14 +6,14 @@ use Rattle.sys_table.specs.declared.sys_result.SysResult.{SysResult}
 use Rattle.flow_model.specs.declared.which.Which.TheVariants.{Callgraph, Stack, Dyck}
 use Rattle.flow_model.specs.Language.{Reads}
 use Rattle.c_tree.specs.Tree.{Program}
-use Rattle.c_shapes.specs.ProgramLanguages as program
+use Rattle.c_meaning_laws.specs.ProgramLanguages as program
 use Rattle.c_rules.specs.Accepted.{IsAcceptedAs}
 use Rattle.c_meaning.specs.Runs.{run}
-use Rattle.flow_graph_laws.specs.Equal.{AreEqual}
-use Rattle.flow_graph_laws.specs.GraphOfProgram.{graph_of_program}
-use Rattle.null_calls_texts_laws.specs.MarkedRuns.{marked_run}
-use Rattle.null_calls_texts_laws.specs.NoFalseAlarm.{RunsAreWords, MarkedRunsAreWords}
-use Rattle.null_calls_texts_laws.specs.Monitors.{IsAcceptedByBoth, IsAcceptedByAll}
+use Rattle.c_meaning_laws.specs.Equal.{AreEqual}
+use Rattle.c_meaning_laws.specs.GraphOfProgram.{graph_of_program}
+use Rattle.null_calls_laws.specs.MarkedRuns.{marked_run}
+use Rattle.null_calls_laws.specs.NoFalseAlarm.{RunsAreWords, MarkedRunsAreWords}
+use Rattle.null_calls_laws.specs.Monitors.{IsAcceptedByBoth, IsAcceptedByAll}
 
 -- the graph of the program has the program's three languages
 pub record HasTheWords (p : Program) : Type 0 where

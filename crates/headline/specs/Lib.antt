@@ -1,5 +1,5 @@
 pub mod AcceptedRuns
 pub mod Headline
-pub use Rattle.null_calls_texts_laws.specs.Lexical
-pub use Rattle.null_calls_texts_laws.specs.Units
-pub use Rattle.null_calls_texts_laws.specs.Instrumented
+pub use Rattle.null_calls_laws.specs.LexicalTexts
+pub use Rattle.null_calls_laws.specs.Units
+pub use Rattle.null_calls_laws.specs.InstrumentedTexts

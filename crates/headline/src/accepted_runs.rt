@@ -1,8 +1,8 @@
 ghost use Rattle.headline.specs.AcceptedRuns.{TextsRaiseNoAlarm};
 
+use c_meaning_laws::program_graph_has_the_words;
 use c_rules_laws::{a_plain_text_makes_no_null_call, accepted_texts_are_programs};
-use flow_graph_laws::program_graph_has_the_words;
-use null_calls_texts_laws::{marked_runs_are_runs, monitors_accept_runs, runs_raise_no_alarm};
+use null_calls_laws::{marked_runs_are_runs, monitors_accept_runs, runs_raise_no_alarm};
 
 /// No false alarm on a text (Wagner and Dean 2001): of each text that is accepted in the mode Plain, for all recorded results
 /// and bounds of turns, the trace of the run is in the program's stack and callgraph languages, which are those of its graph, and

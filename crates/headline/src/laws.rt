@@ -3,7 +3,7 @@ ghost use Rattle.headline.specs.Headline.{TheHeadline};
 use crate::accepted_runs::texts_raise_no_alarm;
 use c_rules_laws::a_text_is_accepted_as_one_program;
 use flow_model::languages_are_nested;
-use null_calls_texts_laws::{instrumented_texts_are_accepted, marked_runs_are_runs};
+use null_calls_laws::{instrumented_texts_are_accepted, marked_runs_are_runs};
 
 /// The headline (Wagner and Dean 2001; Giffin, Jha and Miller 2004). For every C text that is accepted in the mode Plain, all recorded
 /// results and every bound of turns: the instrumented text, where it has at most 16 MiB, is accepted in the mode Instrumented, and the

@@ -9,6 +9,6 @@ mod laws;
 
 pub use accepted_runs::texts_raise_no_alarm;
 pub use laws::texts_keep_the_headline;
-pub use null_calls_texts_laws::{
+pub use null_calls_laws::{
     instrumented_texts_run_marked, instrumented_units_are_lexical, instrumented_units_are_units,
 };

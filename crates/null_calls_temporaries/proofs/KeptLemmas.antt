@@ -8,8 +8,8 @@ use Rattle.c_syntax.specs.Tree.{Decl, BlockItems, block_decl}
 use Rattle.c_syntax.specs.UnitView.{block_item_before}
 use Rattle.c_syntax.specs.WritesUnit.{block_items_of}
 use Rattle.c_rules.specs.Names.{Name}
-use Rattle.null_calls_rules.specs.Temporaries as term
-use Rattle.null_calls_rules.specs.Temporaries.{arguments_kept, argument_name, declaration_of, declared_before}
+use Rattle.null_calls_laws.specs.Temporaries as term
+use Rattle.null_calls_laws.specs.Temporaries.{arguments_kept, argument_name, declaration_of, declared_before}
 use Rattle.null_calls_temporaries.specs.declared.temporaries.Temporary.{Temporary}
 use Rattle.null_calls_temporaries.specs.Kept.{temporary_of, temporaries_of, items_onto}
 

@@ -3,7 +3,7 @@ use Rattle.std.proofs.Common.{◌≡◌, ℕ, zero, suc, ◌+◌, ◌-◌, ◌<�
 use Rattle.std.specs.Prelude.{◌/◌, ◌%◌, if◌then◌else◌}
 use Rattle.std.proofs.lemmas.Bool.{ltb-true}
 use Rattle.std.proofs.lemmas.List.{append_assoc}
-use Rattle.null_calls_rules.specs.Temporaries.{digits_within}
+use Rattle.null_calls_laws.specs.Temporaries.{digits_within}
 
 above : (n m : ℕ) → m ≤ n → nat_lt n m ≡ false
 above n m h = by (nat_lt n m) refl

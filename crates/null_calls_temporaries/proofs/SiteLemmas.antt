@@ -9,10 +9,10 @@ use Rattle.c_tree.specs.Functions.{defined, value_type}
 use Rattle.c_tree.specs.Program.{IsProgram}
 use Rattle.c_tree.specs.View.{ctype_of, types_of}
 use Rattle.c_tree.proofs.Rows.{function_is}
-use Rattle.c_shapes.specs.Mentions.{Callee, Direct, Through, mentions_of_program}
-use Rattle.c_shapes.specs.CallGraph.{callee_at, is_marked, marked_where}
-use Rattle.null_calls_rules.specs.MarkedCalls as term
-use Rattle.null_calls_rules.specs.MarkedCalls.{called_as, called_by_type, marked_of, sites_of}
+use Rattle.c_meaning_laws.specs.Mentions.{Callee, Direct, Through, mentions_of_program}
+use Rattle.c_meaning_laws.specs.CallGraph.{callee_at, is_marked, marked_where}
+use Rattle.null_calls_laws.specs.MarkedCalls as term
+use Rattle.null_calls_laws.specs.MarkedCalls.{called_as, called_by_type, marked_of, sites_of}
 use Rattle.call_graph.proofs.SitesLemmas.{no_site}
 use Rattle.call_graph.specs.declared.mention.Mention.{Mention}
 use Rattle.call_graph.specs.declared.mention.Mention.TheVariants as m

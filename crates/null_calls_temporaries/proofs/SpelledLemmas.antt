@@ -11,7 +11,7 @@ use Rattle.c_syntax.specs.Writes.{params_of}
 use Rattle.c_rules.specs.Names.{Name}
 use Rattle.c_syntax_nodes.specs.Copied.{param_of}
 use Rattle.c_syntax_nodes.proofs.CopyLemmas.{params_from, params_are}
-use Rattle.null_calls_rules.specs.SpelledTypes as types
+use Rattle.null_calls_laws.specs.SpelledTypes as types
 use Rattle.null_calls_temporaries.specs.Spelled.{spelled_param}
 
 params_as : (tags : List Name) (at : ℕ) (ts : List TypeTree) → params_from (map (spelled_param tags at) ts) ≡ types.params_of tags at (types_of ts)

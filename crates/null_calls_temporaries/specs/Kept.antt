@@ -4,7 +4,7 @@ use Rattle.c_tree.specs.View.{ctype_of}
 use Rattle.c_syntax.specs.declared.tree.BlockItem.{BlockItem}
 use Rattle.c_syntax.specs.Tree.{Spec, Declarator, Decl, decl, no_storage, more_parts, no_init, no_parts, BlockItems}
 use Rattle.c_syntax.specs.UnitView.{block_item_before}
-use Rattle.null_calls_rules.specs.Temporaries as term
+use Rattle.null_calls_laws.specs.Temporaries as term
 use Rattle.null_calls_temporaries.specs.declared.temporaries.Temporary.{Temporary}
 
 abbrev pub temporary_of : Temporary → term.Temporary

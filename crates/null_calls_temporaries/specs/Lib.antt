@@ -2,8 +2,8 @@ pub mod Callees
 pub mod Kept
 pub mod Sited
 pub mod Spelled
-pub use Rattle.null_calls_rules.specs.InstrumentedExpressions
-pub use Rattle.null_calls_rules.specs.MarkedCalls
-pub use Rattle.null_calls_rules.specs.Temporaries
-pub use Rattle.null_calls_rules.specs.Instrumented
-pub use Rattle.null_calls_rules.specs.InstrumentedStatements
+pub use Rattle.null_calls_laws.specs.InstrumentedExpressions
+pub use Rattle.null_calls_laws.specs.MarkedCalls
+pub use Rattle.null_calls_laws.specs.Temporaries
+pub use Rattle.null_calls_laws.specs.Instrumented
+pub use Rattle.null_calls_laws.specs.InstrumentedStatements

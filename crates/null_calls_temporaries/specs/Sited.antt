@@ -4,8 +4,8 @@ use Rattle.std.specs.Borrow.{Bor}
 use Rattle.c_tree.specs.declared.tree.CType.{CType as TypeTree}
 use Rattle.c_tree.specs.Tree.{CType}
 use Rattle.c_tree.specs.View.{ctype_of, types_of}
-use Rattle.null_calls_rules.specs.MarkedCalls as term
-use Rattle.null_calls_rules.specs.MarkedCalls.{Sites}
+use Rattle.null_calls_laws.specs.MarkedCalls as term
+use Rattle.null_calls_laws.specs.MarkedCalls.{Sites}
 use Rattle.null_calls_temporaries.specs.declared.table.Called.{Called}
 use Rattle.null_calls_temporaries.specs.declared.marked_sites.Marked.{Marked}
 use Rattle.null_calls_temporaries.specs.declared.marked_sites.MarkedSites.{MarkedSites}

@@ -1,5 +1,5 @@
 ghost use Rattle.std.specs.Prelude.{◌≡◌, ◌<◌, ℕ, nat_eq, None, length, slice_index_or, IfOk};
-ghost use Rattle.c_shapes.specs.CallGraph.{callee_at};
+ghost use Rattle.c_meaning_laws.specs.CallGraph.{callee_at};
 ghost use Rattle.call_graph.specs.Saying.{mention_of, said};
 ghost use Rattle.null_calls_temporaries.specs.Callees.{callee_where, put_where, callee_after};
 

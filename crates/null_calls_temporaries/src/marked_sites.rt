@@ -36,7 +36,7 @@ impl<'p> MarkedSites<'p> {
     ghost use Rattle.std.specs.Prelude.{ℕ, IfOk};
     ghost use Rattle.c_tree.specs.View.{program_of};
     ghost use Rattle.call_graph.specs.Calls.{AreCallsOf};
-    ghost use Rattle.null_calls_rules.specs.MarkedCalls as marks;
+    ghost use Rattle.null_calls_laws.specs.MarkedCalls as marks;
     ghost use Rattle.null_calls_temporaries.specs.Sited.{called_where, sited, IsCallAt};
 
     /// The marked calls of the program, with the types of what they call. Takes time that is linear in the program.

@@ -1,6 +1,6 @@
 ghost use Rattle.std.specs.Prelude.{◌≡◌, ◌++◌, OnOk, IfOk};
-ghost use Rattle.null_calls_rules.specs.Temporaries as names;
-ghost use Rattle.null_calls_rules.specs.Temporaries.{digits_within, digits_of};
+ghost use Rattle.null_calls_laws.specs.Temporaries as names;
+ghost use Rattle.null_calls_laws.specs.Temporaries.{digits_within, digits_of};
 
 use dm_base::{Bytes, OutOfMemory};
 use std::alloc::Global;

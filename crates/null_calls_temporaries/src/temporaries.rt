@@ -1,7 +1,7 @@
 ghost use Rattle.std.specs.Prelude.{◌≡◌, ◌++◌, ◌∷◌, [], OnOk};
 ghost use Rattle.c_tree.specs.View.{ctype_of, types_of};
 ghost use Rattle.null_calls_temporaries.specs.Sited.{type_where, called_of};
-ghost use Rattle.null_calls_rules.specs.Temporaries as kept;
+ghost use Rattle.null_calls_laws.specs.Temporaries as kept;
 ghost use Rattle.null_calls_temporaries.specs.Kept.{temporaries_of};
 
 use crate::names::{argument_name, designator_name, result_name};

@@ -1,9 +1,4 @@
 pub mod Chains
-pub mod HeldExpressions
-pub mod HeldRuns
-pub mod HeldStatements
-pub mod HeldSteps
-pub mod HeldTurns
 pub mod NextSteps
 pub mod Noting
 pub mod Recording

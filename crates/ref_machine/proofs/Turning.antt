@@ -24,7 +24,7 @@ use Rattle.ref_machine_frames.specs.Frames.{place_of, stack, numbers, going_roun
 use Rattle.ref_machine_frames.proofs.Joining.{then_assoc, pushed}
 use Rattle.ref_machine.specs.Standing.{EndsRightly, state}
 use Rattle.ref_machine.specs.Futures.{event_first}
-use Rattle.ref_machine.proofs.HeldTurns.{enter_enough, again_enough}
+use Rattle.ref_machine_frames.proofs.HeldTurns.{enter_enough, again_enough}
 use Rattle.ref_machine_frames.proofs.CellLemmas.{none_there}
 
 pub parameters_are : (x : ℕ) (vs : List Value) → parameters x vs ≡ numbers x (length vs)

@@ -22,8 +22,10 @@ use c_tree::{Program, TStmt, Value};
 use c_values::Memory;
 use dm_base::{OutOfMemory, Outcome};
 use ref_machine_expressions::{begin, with_value};
-use ref_machine_frames::{After, Fault, Frame, Here, Left, Now, given};
-use ref_machine_statements::{begin_statement, in_statement, test_loop, with_exit};
+use ref_machine_frames::{
+    After, Fault, Frame, Here, Left, Now, begin_statement, given, in_statement, test_loop,
+    with_exit,
+};
 use std::alloc::Global;
 
 // The end of the run with the value of main.

@@ -2,3 +2,13 @@ pub mod Answering
 pub mod CellLemmas
 pub mod Joining
 pub mod Working
+pub mod Beginnings
+pub mod Endings
+pub mod FirstGroups
+pub mod Lessening
+pub mod Stepping
+pub mod HeldExpressions
+pub mod HeldRuns
+pub mod HeldStatements
+pub mod HeldSteps
+pub mod HeldTurns

@@ -10,7 +10,7 @@ use Rattle.c_tree.specs.Tree.{Program}
 use Rattle.call_places.specs.CallPlaces.{CallPlace, call_places}
 use Rattle.call_places.specs.Seen.{place_seen, seen}
 use Rattle.call_places.specs.declared.place.CallPlace.{CallPlace as Found}
-use Rattle.c_shapes.specs.CallGraph.{candidates}
+use Rattle.c_meaning_laws.specs.CallGraph.{candidates}
 use Rattle.site_lines.specs.SiteLines.{name_behind, site_line, site_lines, sites_text}
 use Rattle.site_lines.specs.Parts.{site_front, line_at}
 use Rattle.site_lines.proofs.PartLemmas.{five}

@@ -6,9 +6,9 @@ use Rattle.dm_base.specs.declared.mode.Mode.TheVariants.{Plain, Instrumented}
 use Rattle.dm_base.specs.declared.outcome.TraceEnd.TheVariants.{Ended}
 use Rattle.dm_base.specs.declared.verdict.Status.{Status}
 use Rattle.headline.specs.AcceptedRuns.{TextsRaiseNoAlarm}
-use Rattle.null_calls_rules.specs.MarkedRuns.{null_calls_of, marked_run}
-use Rattle.null_calls_rules.specs.Monitors.{IsAcceptedByAll}
-use Rattle.null_calls_rules.proofs.TypedRuns.{null_calls_recorded}
+use Rattle.null_calls_laws.specs.MarkedRuns.{null_calls_of, marked_run}
+use Rattle.null_calls_laws.specs.Monitors.{IsAcceptedByAll}
+use Rattle.null_calls_laws.proofs.TypedRuns.{null_calls_recorded}
 use Rattle.headline.specs.Units.{InstrumentedTextsRunMarked}
 use Rattle.tool_steps.specs.Refused.{IsRefused}
 use Rattle.c_check_values.specs.declared.error.CheckError.{CheckError}
@@ -23,9 +23,9 @@ use Rattle.c_tree.specs.Program.{IsProgram}
 use Rattle.c_tree.specs.Tree.{Program}
 use Rattle.c_tree.specs.View.{program_of}
 use Rattle.flow_model.specs.Graph.{Graph}
-use Rattle.flow_graph_laws.specs.GraphOfProgram.{graph_of_program}
-use Rattle.headline.specs.Lexical.{InstrumentedUnitsAreLexical}
-use Rattle.null_calls_rules.specs.Instrumented.{instrumented_unit}
+use Rattle.c_meaning_laws.specs.GraphOfProgram.{graph_of_program}
+use Rattle.headline.specs.LexicalTexts.{InstrumentedUnitsAreLexical}
+use Rattle.null_calls_laws.specs.Instrumented.{instrumented_unit}
 use Rattle.tool_steps.specs.Run.{Run as Found}
 use Rattle.tool_steps.specs.WholeRuns.{run_of}
 use Rattle.tool_steps.specs.Results.{run_text}

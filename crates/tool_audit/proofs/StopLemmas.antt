@@ -3,11 +3,11 @@ use Rattle.std.proofs.Common.{◌≡◌, ℕ, ◌<◌, ◌≤◌, List, Option, 
 use Rattle.dm_base.specs.declared.mode.Mode.TheVariants.{Plain}
 use Rattle.dm_base.specs.declared.verdict.Status.{Status}
 use Rattle.dm_io.specs.Store.{Files, file_at, IsMissing}
-use Rattle.null_calls_rules.specs.MarkedRuns.{marked_run}
+use Rattle.null_calls_laws.specs.MarkedRuns.{marked_run}
 use Rattle.c_rules.specs.Accepted.{IsAcceptedAs}
 use Rattle.c_tree.specs.Tree.{Program}
 use Rattle.c_tree.specs.View.{program_of}
-use Rattle.flow_graph_laws.specs.GraphOfProgram.{graph_of_program}
+use Rattle.c_meaning_laws.specs.GraphOfProgram.{graph_of_program}
 use Rattle.tool_steps.specs.Results.{AreSomeResults}
 use Rattle.tool_steps.specs.ResultsStops.{RefusesResultsAlone}
 use Rattle.tool_steps.specs.Source.{Source}

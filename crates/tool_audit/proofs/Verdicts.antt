@@ -11,7 +11,7 @@ use Rattle.flow_model.specs.Graph.{Graph}
 use Rattle.flow_model.specs.Verdict.{IsVerdict}
 use Rattle.flow_model.proofs.Histories.{accepted_whole}
 use Rattle.flow_model.proofs.Verdicts.{kept-reads}
-use Rattle.null_calls_rules.specs.Monitors.{IsAcceptedByAll}
+use Rattle.null_calls_laws.specs.Monitors.{IsAcceptedByAll}
 use Rattle.c_meaning.specs.Runs.{Run}
 use Rattle.tool_monitors.specs.Judged.{status_of, worse}
 use Rattle.report.specs.Precision.{next_text}

@@ -1,10 +1,10 @@
 ghost use Rattle.std.specs.Prelude.{◌≡◌, ◌++◌, ◌≤◌, ◌<◌, ◌^◌, ℕ, List, IfOk, IfErr, IfSome, OnOk};
-ghost use Rattle.null_calls_rules.specs.MarkedRuns.{marked_run};
+ghost use Rattle.null_calls_laws.specs.MarkedRuns.{marked_run};
 ghost use Rattle.tool_audit.specs.Audit.{AreReported, Audits, IsAuditOf, IsAuditStatus, LacksToAudit, RefusesToAudit};
 ghost use Rattle.tool_audit.specs.Stopping.{StopsAuditing};
 ghost use Rattle.c_tree.specs.View.{program_of};
 ghost use Rattle.dm_base.specs.declared.mode.Mode.TheVariants.{Plain};
-ghost use Rattle.flow_graph_laws.specs.GraphOfProgram.{graph_of_program};
+ghost use Rattle.c_meaning_laws.specs.GraphOfProgram.{graph_of_program};
 ghost use Rattle.tool_steps.specs.WholeRuns.{run_of};
 ghost use Rattle.tool_steps.specs.Sources.{IsSourceOf};
 ghost use Rattle.tool_frame.specs.Stop.{Stops};

@@ -1,5 +1,5 @@
 ghost use Rattle.std.specs.Prelude.{◌≡◌, ℕ, List, IfOk};
-ghost use Rattle.null_calls_rules.specs.MarkedRuns.{marked_run};
+ghost use Rattle.null_calls_laws.specs.MarkedRuns.{marked_run};
 ghost use Rattle.c_check_values.specs.declared.error.CheckError.TheVariants.{At};
 ghost use Rattle.c_meaning.specs.Runs.{run};
 ghost use Rattle.c_tree.specs.View.{program_of};

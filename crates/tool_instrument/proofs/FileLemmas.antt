@@ -11,7 +11,7 @@ use Rattle.c_syntax.specs.Limits.{most_pairs}
 use Rattle.c_syntax.specs.Statements.{ReadsItems}
 use Rattle.c_syntax.specs.Tree.{Items}
 use Rattle.c_tree.specs.Tree.{Program}
-use Rattle.null_calls_texts_laws.specs.Instrumented.{instrumented_text}
+use Rattle.null_calls_laws.specs.InstrumentedTexts.{instrumented_text}
 use Rattle.tool_steps.proofs.SourceLemmas.{one_unit, one_typing}
 use Rattle.tool_instrument.specs.Instrument.{IsReading, Instruments, RefusesToInstrument, IsReadyToInstrument, longest}
 

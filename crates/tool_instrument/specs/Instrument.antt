@@ -11,7 +11,7 @@ use Rattle.c_syntax.specs.Tree.{Items}
 use Rattle.c_rules.specs.Accepted.{IsAcceptedAs}
 use Rattle.c_rules.specs.Units.{IsTyped}
 use Rattle.c_tree.specs.Tree.{Program}
-use Rattle.null_calls_texts_laws.specs.Instrumented.{instrumented_text, DoesAsMarked}
+use Rattle.null_calls_laws.specs.InstrumentedTexts.{instrumented_text, DoesAsMarked}
 use Rattle.tool_steps.specs.Sources.{RefusesSource}
 
 -- the greatest length of an instrumented text, in bytes: 16 MiB

@@ -10,12 +10,12 @@ use Rattle.c_tree.specs.Tree.{Program}
 use Rattle.tool_fleet.specs.Standing.{Standing}
 use Rattle.tool_fleet.specs.Standing.TheVariants as standings
 use Rattle.fleet_schedule.specs.declared.line.Line.{Line}
-use Rattle.flow_graph_laws.specs.GraphOfProgram.{graph_of_program}
+use Rattle.c_meaning_laws.specs.GraphOfProgram.{graph_of_program}
 use Rattle.flow_model.specs.declared.which.Which.{Which}
 use Rattle.flow_model.specs.declared.which.Which.TheVariants.{Dyck}
 use Rattle.headline.specs.Headline.{IsWithinBound}
 use Rattle.model_file.specs.Refusal.{IsModel}
-use Rattle.headline.specs.Instrumented.{instrumented_text}
+use Rattle.headline.specs.InstrumentedTexts.{instrumented_text}
 use Rattle.tool_fleet.specs.declared.reports.ProcessReport.{ProcessReport}
 use Rattle.tool_fleet.specs.Fleet.{IsReportOf}
 

@@ -3,7 +3,7 @@ use Rattle.std.specs.Prelude.{ℕ, List, ◌++◌, length, codes, decimal}
 use Rattle.c_tree.specs.Functions.{defined}
 use Rattle.c_tree.specs.Sites.{sites_of_program}
 use Rattle.c_tree.specs.Tree.{Program}
-use Rattle.generated_program_bounds_laws.specs.Bounds.{marked_sites}
+use Rattle.generated_program_laws.specs.Bounds.{marked_sites}
 
 -- what is told of the program
 abbrev pub program_counts : Program → List ℕ

@@ -1,8 +1,8 @@
 ghost use Rattle.std.specs.Prelude.{◌≡◌, ◌≢◌, ◌≤◌, ◌<◌, ℕ, List, IfOk};
-ghost use Rattle.alarm_laws.specs.MarkedRuns.{marked_run};
+ghost use Rattle.c_meaning_laws.specs.MarkedRuns.{marked_run};
 ghost use Rattle.c_tree.specs.View.{program_of};
 ghost use Rattle.dm_base.specs.declared.mode.Mode.TheVariants.{Plain};
-ghost use Rattle.flow_graph_laws.specs.GraphOfProgram.{graph_of_program};
+ghost use Rattle.c_meaning_laws.specs.GraphOfProgram.{graph_of_program};
 ghost use Rattle.generated_program.specs.Generator.{generated_source, generated_results as results};
 ghost use Rattle.generated_program.specs.Typed.{generated_program};
 ghost use Rattle.tool_audit.specs.WholeRuns.{run_of};
@@ -16,8 +16,9 @@ use crate::summary::summary_line;
 use c_rules_laws::a_text_is_accepted_as_one_program;
 use dm_base::{Mode, OutOfMemory, Status};
 use generated_program::{generated_results, generated_text};
-use generated_program_bounds_laws::{generated_calls_descend, generated_programs_are_small};
-use generated_program_laws::generated_texts_are_accepted;
+use generated_program_laws::{
+    generated_calls_descend, generated_programs_are_small, generated_texts_are_accepted,
+};
 use line_text::push_bytes;
 use std::alloc::Global;
 use tool_audit::{Audited, Source, SourceError, audit_program, read_source, texts_raise_no_alarm};

@@ -1,6 +1,6 @@
 ghost use Rattle.std.specs.Prelude.{◌≡◌, ◌++◌, decimal, length, if◌then◌else◌, IfOk, OnOk};
 ghost use Rattle.c_tree.specs.View.{program_of};
-ghost use Rattle.generated_program_bounds_laws.specs.Bounds.{marked_sites};
+ghost use Rattle.generated_program_laws.specs.Bounds.{marked_sites};
 ghost use Rattle.tool_selftest.specs.Summary.{program_counts, run_counts, counts_text};
 
 use c_tree::Program;

@@ -21,7 +21,7 @@ use Rattle.c_syntax.specs.Spelling.{SpellsUnit}
 use Rattle.c_syntax.specs.Statements.{ReadsItems}
 use Rattle.c_syntax.specs.Tree.{Items}
 use Rattle.c_syntax.specs.UnitView.{items_of}
-use Rattle.c_syntax.proofs.OneUnit.{same_items}
+use Rattle.c_syntax_printing.proofs.OneUnit.{same_items}
 use Rattle.c_tree.specs.Tree.{Program}
 use Rattle.c_tree.specs.View.{program_of}
 use Rattle.tool_sources.specs.declared.source.Source.{Source}

@@ -1,4 +1,4 @@
-use Rattle.c_parser_refusals.specs.Phrases.{APlainDecl}
+use Rattle.c_syntax_printing.specs.Phrases.{APlainDecl}
 use Rattle.c_parser_phrases.specs.Refusing.{bound_of}
 use Rattle.c_parser.proofs.StmtStops.{stops_deep}
 use Rattle.c_parser.proofs.DeclStops.{no_decl_room}

@@ -1,12 +1,12 @@
 use Rattle.c_parser.proofs.DeclLemmas.{no_init_stands, init_stands}
 use Rattle.std.proofs.Common.{sym}
-use Rattle.c_parser_refusals.proofs.Combine.{fails_at}
+use Rattle.c_syntax_printing.proofs.Combine.{fails_at}
 use Rattle.c_parser.proofs.StmtStops.{raised}
 use Rattle.c_parser.proofs.DeclStops.{initialiser_fails, initialiser_leads, no_initialiser_leads}
-use Rattle.c_parser_refusals.specs.Phrases.{AnInit}
-use Rattle.c_parser_refusals.specs.Declarations.{PartsTail}
+use Rattle.c_syntax_printing.specs.Phrases.{AnInit}
+use Rattle.c_syntax_printing.specs.Declarations.{PartsTail}
 use Rattle.c_parser_phrases.specs.Refusing.{bound_of}
-use Rattle.c_parser_refusals.specs.Opens.{DeepInit}
+use Rattle.c_syntax_printing.specs.Opens.{DeepInit}
 use Rattle.c_parser.specs.Nesting.{OpensInitialiser}
 use Rattle.c_parser.proofs.Passing.{passed_deep}
 use Rattle.c_parser.proofs.declarations.maybe_initialiser.Goals as goal

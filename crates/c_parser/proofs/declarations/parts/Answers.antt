@@ -1,16 +1,16 @@
 use Rattle.std.proofs.Common.{ap, length, arith, ◌∙◌, sym}
 use Rattle.c_parser.proofs.ListLemmas.{goes_first, goes_more, goes_from, rest_after}
 use Rattle.c_parser.proofs.DeclLemmas.{part_before, parts_done}
-use Rattle.c_parser_refusals.specs.Phrases.{any}
+use Rattle.c_syntax_printing.specs.Phrases.{any}
 use Rattle.c_parser.proofs.StmtStops.{raised, ends_at}
 use Rattle.c_parser.proofs.DeclStops.{no_end_from, next_declarator_fails, next_tail_fails}
-use Rattle.c_parser_refusals.specs.Phrases.{ADeclarator}
-use Rattle.c_parser_refusals.specs.Declarations.{PartsTail}
+use Rattle.c_syntax_printing.specs.Phrases.{ADeclarator}
+use Rattle.c_syntax_printing.specs.Declarations.{PartsTail}
 use Rattle.c_parser_phrases.specs.Refusing.{bound_of}
 use Rattle.c_syntax.specs.View.{declarator_of}
 use Rattle.c_syntax.specs.Grammar.{HasName}
-use Rattle.c_parser_refusals.specs.Opens.{DeepDeclarator}
-use Rattle.c_parser_refusals.proofs.PartOpens.{part_declarator_opens}
+use Rattle.c_syntax_printing.specs.Opens.{DeepDeclarator}
+use Rattle.c_syntax_printing.proofs.PartOpens.{part_declarator_opens}
 use Rattle.c_parser.specs.Nesting.{OpensParts, OpensInitialiser}
 use Rattle.c_parser.proofs.ItemGoesOn.{initialiser_goes_on, part_then}
 use Rattle.c_parser.proofs.Passing.{passed, passed_deep}

@@ -2,12 +2,12 @@ use Rattle.std.proofs.Common.{◌≡◌, ◌≤◌, ℕ, List, ◌∷◌, length
 use Rattle.c_lexer.specs.declared.token.Token.{Token}
 use Rattle.c_lexer.specs.declared.punctuator.TheConstants.{COMMA}
 use Rattle.c_syntax.specs.Tokens.{Is}
-use Rattle.c_parser_refusals.specs.Opens.{Opens, DeepParts}
+use Rattle.c_syntax_printing.specs.Opens.{Opens, DeepParts}
 use Rattle.c_syntax.specs.View.{declarator_of}
 use Rattle.c_parser_phrases.specs.Phrases.{HasDeclarator}
-use Rattle.c_parser_refusals.specs.Fails.{Fails}
-use Rattle.c_parser_refusals.specs.Phrases.{Bound}
-use Rattle.c_parser_refusals.specs.Declarations.{PartsTail, PartsEnd}
+use Rattle.c_syntax_printing.specs.Fails.{Fails}
+use Rattle.c_syntax_printing.specs.Phrases.{Bound}
+use Rattle.c_syntax_printing.specs.Declarations.{PartsTail, PartsEnd}
 use Rattle.c_parser.specs.Lists.{Goes, RestAfterComma}
 use Rattle.c_parser.specs.Parsed.{AreParts}
 use Rattle.c_parser.proofs.declarations.parts.Given as goal

@@ -2,13 +2,13 @@ use Rattle.std.proofs.Common.{arith}
 use Rattle.c_parser.proofs.DeclLemmas.{plain_decl}
 use Rattle.c_parser.proofs.StmtStops.{raised}
 use Rattle.c_parser.proofs.DeclStops.{spec_fails, first_declarator_fails, parts_tail_fails}
-use Rattle.c_parser_refusals.specs.Phrases.{APlainDecl, ADeclarator}
-use Rattle.c_parser_refusals.specs.Declarations.{PartsTail}
+use Rattle.c_syntax_printing.specs.Phrases.{APlainDecl, ADeclarator}
+use Rattle.c_syntax_printing.specs.Declarations.{PartsTail}
 use Rattle.c_parser_phrases.specs.Refusing.{bound_of}
 use Rattle.c_parser.proofs.StmtStops.{raised_flat}
 use Rattle.c_syntax.specs.View.{declarator_of}
 use Rattle.c_syntax.specs.Grammar.{HasName}
-use Rattle.c_parser_refusals.specs.Opens.{DeepDecl, DeepDeclarator}
+use Rattle.c_syntax_printing.specs.Opens.{DeepDecl, DeepDeclarator}
 use Rattle.c_parser.specs.Nesting.{OpensAs, OpensParts}
 use Rattle.c_parser.proofs.ItemGoesOn.{first_declarator_goes_on, parts_go_on}
 use Rattle.c_parser.proofs.Passing.{passed, passed_deep, passed_flat}

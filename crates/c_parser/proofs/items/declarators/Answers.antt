@@ -1,14 +1,14 @@
 use Rattle.std.proofs.Common.{ap, length, arith, ◌∙◌, sym}
 use Rattle.c_parser.proofs.ListLemmas.{goes_first, goes_more, goes_from, rest_after}
 use Rattle.c_parser.proofs.ItemLemmas.{declarator_before, declarators_done}
-use Rattle.c_parser_refusals.specs.Phrases.{any, ADeclarator}
-use Rattle.c_parser_refusals.specs.Items.{DeclaratorsClosed}
+use Rattle.c_syntax_printing.specs.Phrases.{any, ADeclarator}
+use Rattle.c_syntax_printing.specs.Items.{DeclaratorsClosed}
 use Rattle.c_parser_phrases.specs.Refusing.{bound_of}
 use Rattle.c_parser.proofs.StmtStops.{raised, ends_at}
 use Rattle.c_parser.proofs.ItemStops.{one_declarator_fails, one_declarator_leads, another_declarator_fails, no_declarators_end}
 use Rattle.c_syntax.specs.Grammar.{HasName}
-use Rattle.c_parser_refusals.specs.Opens.{DeepDeclarator}
-use Rattle.c_parser_refusals.specs.Deep.{DeepDeclarators}
+use Rattle.c_syntax_printing.specs.Opens.{DeepDeclarator}
+use Rattle.c_syntax_printing.specs.Deep.{DeepDeclarators}
 use Rattle.c_parser.specs.Nesting.{OpensAs}
 use Rattle.c_parser.proofs.ItemGoesOn.{declarator_of_member_goes_on, declarator_then}
 use Rattle.c_parser.proofs.Passing.{passed_deep}

@@ -1,12 +1,12 @@
 use Rattle.std.proofs.Common.{◌≡◌, ◌<◌, ℕ, List, ◌∷◌, length}
 use Rattle.c_lexer.specs.declared.token.Token.{Token}
-use Rattle.c_parser_refusals.specs.Opens.{Opens}
-use Rattle.c_parser_refusals.specs.Deep.{DeepDeclarators}
+use Rattle.c_syntax_printing.specs.Opens.{Opens}
+use Rattle.c_syntax_printing.specs.Deep.{DeepDeclarators}
 use Rattle.c_lexer.specs.declared.punctuator.TheConstants.{COMMA}
 use Rattle.c_syntax.specs.Tokens.{Is}
-use Rattle.c_parser_refusals.specs.Fails.{Fails}
-use Rattle.c_parser_refusals.specs.Phrases.{Bound}
-use Rattle.c_parser_refusals.specs.Items.{DeclaratorsClosed, DeclaratorsEnd}
+use Rattle.c_syntax_printing.specs.Fails.{Fails}
+use Rattle.c_syntax_printing.specs.Phrases.{Bound}
+use Rattle.c_syntax_printing.specs.Items.{DeclaratorsClosed, DeclaratorsEnd}
 use Rattle.c_parser.specs.Lists.{Goes, RestAfterComma}
 use Rattle.c_parser.specs.Parsed.{AreDeclarators}
 use Rattle.c_parser.proofs.items.declarators.Given as goal

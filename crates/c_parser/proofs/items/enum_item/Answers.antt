@@ -1,13 +1,13 @@
 use Rattle.std.proofs.Common.{ap, length, arith}
 use Rattle.c_parser.proofs.ItemLemmas.{is_enum_item, tag_no_longer}
-use Rattle.c_parser_refusals.specs.Phrases.{any}
-use Rattle.c_parser_refusals.specs.Items.{AnItem, InEnum}
+use Rattle.c_syntax_printing.specs.Phrases.{any}
+use Rattle.c_syntax_printing.specs.Items.{AnItem, InEnum}
 use Rattle.c_parser_phrases.specs.Refusing.{bound_of}
-use Rattle.c_parser_refusals.proofs.Combine.{fails_at}
+use Rattle.c_syntax_printing.proofs.Combine.{fails_at}
 use Rattle.c_parser.proofs.StmtStops.{raised, ends_at}
 use Rattle.c_parser.proofs.ItemStops.{no_ending, begins_from, enum_leads}
-use Rattle.c_parser_refusals.specs.Opens.{DeepItem}
-use Rattle.c_parser_refusals.specs.Deep.{DeepEnumerators}
+use Rattle.c_syntax_printing.specs.Opens.{DeepItem}
+use Rattle.c_syntax_printing.specs.Deep.{DeepEnumerators}
 use Rattle.c_parser.specs.Nesting.{OpensAs}
 use Rattle.c_parser.proofs.StmtGoesOn.{opens_at}
 use Rattle.c_parser.proofs.ItemGoesOn.{enum_goes_on}

@@ -1,10 +1,10 @@
 use Rattle.std.proofs.Common.{arith}
 use Rattle.c_parser.proofs.ItemLemmas.{enumerator_before}
-use Rattle.c_parser_refusals.specs.Items.{InEnum, ValueRest}
+use Rattle.c_syntax_printing.specs.Items.{InEnum, ValueRest}
 use Rattle.c_parser_phrases.specs.Refusing.{bound_of}
 use Rattle.c_parser.proofs.StmtStops.{raised, raised_flat}
 use Rattle.c_parser.proofs.ItemStops.{enumerator_unnamed, enumerator_rest_fails}
-use Rattle.c_parser_refusals.specs.Deep.{DeepEnumerators}
+use Rattle.c_syntax_printing.specs.Deep.{DeepEnumerators}
 use Rattle.c_parser.specs.Nesting.{OpensAs, OpensValue}
 use Rattle.c_parser.proofs.ItemGoesOn.{value_goes_on, enumerator_then}
 use Rattle.c_parser.proofs.Passing.{passed, passed_flat}

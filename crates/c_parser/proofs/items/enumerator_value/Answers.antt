@@ -1,11 +1,11 @@
 use Rattle.c_parser.proofs.ItemLemmas.{no_value_stands, value_stands}
-use Rattle.c_parser_refusals.specs.Phrases.{AnExpr}
-use Rattle.c_parser_refusals.specs.Items.{ValueRest}
+use Rattle.c_syntax_printing.specs.Phrases.{AnExpr}
+use Rattle.c_syntax_printing.specs.Items.{ValueRest}
 use Rattle.c_parser_phrases.specs.Refusing.{bound_of}
 use Rattle.c_syntax.specs.Grammar.{conditional_level}
 use Rattle.c_parser.proofs.StmtStops.{raised}
 use Rattle.c_parser.proofs.ItemStops.{value_fails, value_leads, no_value_leads}
-use Rattle.c_parser_refusals.specs.Opens.{DeepExpr}
+use Rattle.c_syntax_printing.specs.Opens.{DeepExpr}
 use Rattle.c_parser.specs.Nesting.{OpensValue}
 use Rattle.c_parser.proofs.Passing.{passed_deep}
 use Rattle.c_parser.proofs.items.enumerator_value.Goals as goal

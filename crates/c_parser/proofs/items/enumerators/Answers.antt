@@ -1,12 +1,12 @@
 use Rattle.std.proofs.Common.{ap, length, arith, ◌∙◌, sym, ◌∷◌}
 use Rattle.c_parser.proofs.ListLemmas.{goes_first, goes_more, goes_from, rest_after}
 use Rattle.c_parser.proofs.ItemLemmas.{enumerators_done, enumerators_closed}
-use Rattle.c_parser_refusals.specs.Phrases.{any}
-use Rattle.c_parser_refusals.specs.Items.{InEnum}
+use Rattle.c_syntax_printing.specs.Phrases.{any}
+use Rattle.c_syntax_printing.specs.Items.{InEnum}
 use Rattle.c_parser_phrases.specs.Refusing.{bound_of}
 use Rattle.c_parser.proofs.StmtStops.{raised, ends_at}
 use Rattle.c_parser.proofs.ItemStops.{enum_closed, enum_closed_after_comma, no_enum_end, another_enumerator_fails}
-use Rattle.c_parser_refusals.specs.Deep.{DeepEnumerators}
+use Rattle.c_syntax_printing.specs.Deep.{DeepEnumerators}
 use Rattle.c_parser.specs.Nesting.{OpensAs}
 use Rattle.c_parser.proofs.StmtGoesOn.{opens_at}
 use Rattle.c_parser.proofs.Passing.{passed}

@@ -1,12 +1,12 @@
 use Rattle.std.proofs.Common.{◌≡◌, ◌<◌, ℕ, List, ◌∷◌, length}
 use Rattle.c_lexer.specs.declared.token.Token.{Token}
-use Rattle.c_parser_refusals.specs.Opens.{Opens}
-use Rattle.c_parser_refusals.specs.Deep.{DeepEnumerators}
+use Rattle.c_syntax_printing.specs.Opens.{Opens}
+use Rattle.c_syntax_printing.specs.Deep.{DeepEnumerators}
 use Rattle.c_lexer.specs.declared.punctuator.TheConstants.{COMMA}
 use Rattle.c_syntax.specs.Tokens.{Is}
-use Rattle.c_parser_refusals.specs.Fails.{Fails}
-use Rattle.c_parser_refusals.specs.Phrases.{Bound}
-use Rattle.c_parser_refusals.specs.Items.{InEnum, EnumEnd}
+use Rattle.c_syntax_printing.specs.Fails.{Fails}
+use Rattle.c_syntax_printing.specs.Phrases.{Bound}
+use Rattle.c_syntax_printing.specs.Items.{InEnum, EnumEnd}
 use Rattle.c_parser.specs.Lists.{Goes, RestAfterComma}
 use Rattle.c_parser.specs.Parsed.{AreEnumerators}
 use Rattle.c_parser.proofs.items.enumerators.Given as goal

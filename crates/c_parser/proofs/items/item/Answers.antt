@@ -1,6 +1,6 @@
 use Rattle.c_parser_phrases.specs.Refusing.{bound_of}
 use Rattle.c_parser.proofs.ItemStops.{stops_other}
-use Rattle.c_parser_refusals.specs.Opens.{DeepItem}
+use Rattle.c_syntax_printing.specs.Opens.{DeepItem}
 use Rattle.c_parser.specs.Nesting.{OpensAs}
 use Rattle.c_parser.proofs.Passing.{passes_other}
 use Rattle.c_parser.proofs.items.item.Goals as goal

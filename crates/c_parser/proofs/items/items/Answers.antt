@@ -2,12 +2,12 @@ use Rattle.std.proofs.Common.{arith}
 use Rattle.c_parser.specs.Lists.{ends}
 use Rattle.c_parser.proofs.ListLemmas.{goes_first, goes_more, goes_end, rest_of}
 use Rattle.c_parser.proofs.ItemLemmas.{item_before}
-use Rattle.c_parser_refusals.specs.Units.{AUnit}
-use Rattle.c_parser_refusals.specs.Items.{AnItem}
+use Rattle.c_syntax_printing.specs.Units.{AUnit}
+use Rattle.c_syntax_printing.specs.Items.{AnItem}
 use Rattle.c_parser_phrases.specs.Refusing.{bound_of}
 use Rattle.c_parser.proofs.StmtStops.{raised}
 use Rattle.c_parser.proofs.ItemStops.{some_left, first_item_fails, first_item_leads, next_item_fails}
-use Rattle.c_parser_refusals.specs.Opens.{DeepItem, DeepUnit}
+use Rattle.c_syntax_printing.specs.Opens.{DeepItem, DeepUnit}
 use Rattle.c_parser.specs.Nesting.{OpensAs}
 use Rattle.c_parser.proofs.ItemGoesOn.{item_goes_on, item_then}
 use Rattle.c_parser.proofs.Passing.{passed}

@@ -1,10 +1,10 @@
 use Rattle.std.proofs.Common.{refl, ◌∷◌}
 use Rattle.c_parser.proofs.ItemLemmas.{no_tag_stands, tag_stands}
-use Rattle.c_parser_refusals.specs.Items.{AnItem}
+use Rattle.c_syntax_printing.specs.Items.{AnItem}
 use Rattle.c_parser_phrases.proofs.Known.{not_there}
 use Rattle.c_parser.proofs.StmtStops.{raised_flat}
 use Rattle.c_parser.proofs.ItemStops.{enum_untagged, brace_after_tag}
-use Rattle.c_parser_refusals.specs.Opens.{DeepItem}
+use Rattle.c_syntax_printing.specs.Opens.{DeepItem}
 use Rattle.c_parser.specs.Nesting.{OpensAs}
 use Rattle.c_parser.proofs.Passing.{passed_flat}
 use Rattle.c_parser.proofs.items.maybe_tag.Goals as goal

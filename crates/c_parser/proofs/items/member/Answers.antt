@@ -1,10 +1,10 @@
 use Rattle.std.proofs.Common.{arith}
 use Rattle.c_parser.proofs.ItemLemmas.{member_before}
-use Rattle.c_parser_refusals.specs.Items.{AMember, DeclaratorsClosed}
+use Rattle.c_syntax_printing.specs.Items.{AMember, DeclaratorsClosed}
 use Rattle.c_parser_phrases.specs.Refusing.{bound_of}
 use Rattle.c_parser.proofs.StmtStops.{raised, raised_flat}
 use Rattle.c_parser.proofs.ItemStops.{spec_of_member_fails, declarators_of_member_fail, a_member}
-use Rattle.c_parser_refusals.specs.Deep.{DeepMembers, DeepDeclarators}
+use Rattle.c_syntax_printing.specs.Deep.{DeepMembers, DeepDeclarators}
 use Rattle.c_parser.specs.Nesting.{OpensAs}
 use Rattle.c_parser.proofs.ItemGoesOn.{member_goes_on, member_then}
 use Rattle.c_parser.proofs.Passing.{passed, passed_flat}

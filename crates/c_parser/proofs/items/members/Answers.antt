@@ -1,11 +1,11 @@
 use Rattle.std.proofs.Common.{ap, length, arith, sym}
 use Rattle.c_parser.proofs.ListLemmas.{goes_first, goes_more, goes_from, rest_of}
 use Rattle.c_parser.proofs.ItemLemmas.{members_done}
-use Rattle.c_parser_refusals.specs.Items.{InStruct, AMember}
+use Rattle.c_syntax_printing.specs.Items.{InStruct, AMember}
 use Rattle.c_parser_phrases.specs.Refusing.{bound_of}
 use Rattle.c_parser.proofs.StmtStops.{raised}
 use Rattle.c_parser.proofs.ItemStops.{first_member_fails, first_member_leads, next_member_fails, members_closed}
-use Rattle.c_parser_refusals.specs.Deep.{DeepMembers}
+use Rattle.c_syntax_printing.specs.Deep.{DeepMembers}
 use Rattle.c_parser.specs.Nesting.{OpensAs}
 use Rattle.c_parser.proofs.StmtGoesOn.{opens_at}
 use Rattle.c_parser.proofs.Passing.{passed}

@@ -1,10 +1,10 @@
 use Rattle.std.proofs.Common.{◌<◌, ℕ, List, length}
 use Rattle.c_lexer.specs.declared.token.Token.{Token}
-use Rattle.c_parser_refusals.specs.Opens.{Opens}
-use Rattle.c_parser_refusals.specs.Deep.{DeepMembers}
-use Rattle.c_parser_refusals.specs.Fails.{Fails}
-use Rattle.c_parser_refusals.specs.Phrases.{Bound}
-use Rattle.c_parser_refusals.specs.Items.{InStruct, MembersRest}
+use Rattle.c_syntax_printing.specs.Opens.{Opens}
+use Rattle.c_syntax_printing.specs.Deep.{DeepMembers}
+use Rattle.c_syntax_printing.specs.Fails.{Fails}
+use Rattle.c_syntax_printing.specs.Phrases.{Bound}
+use Rattle.c_syntax_printing.specs.Items.{InStruct, MembersRest}
 use Rattle.c_parser.specs.Lists.{Goes, Rest}
 use Rattle.c_parser.specs.Parsed.{AreMembers}
 use Rattle.c_parser.proofs.items.members.Given as goal

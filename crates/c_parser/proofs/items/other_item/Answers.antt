@@ -1,16 +1,16 @@
 use Rattle.std.proofs.Common.{arith}
 use Rattle.c_parser.proofs.ItemLemmas.{is_decl_item, is_definition, block_of, storage_no_longer}
-use Rattle.c_parser_refusals.specs.Phrases.{ADeclarator, InBlock}
-use Rattle.c_parser_refusals.specs.Declarations.{PartsTail}
-use Rattle.c_parser_refusals.specs.Items.{AnOther}
+use Rattle.c_syntax_printing.specs.Phrases.{ADeclarator, InBlock}
+use Rattle.c_syntax_printing.specs.Declarations.{PartsTail}
+use Rattle.c_syntax_printing.specs.Items.{AnOther}
 use Rattle.c_parser_phrases.specs.Refusing.{bound_of}
 use Rattle.c_parser_phrases.proofs.Known.{not_there}
 use Rattle.c_parser.proofs.StmtStops.{raised, raised_flat, raised_inner}
 use Rattle.c_parser.proofs.ItemStops.{spec_of_item_fails, declarator_of_item_fails, body_of_item_fails, parts_of_item_fail}
 use Rattle.c_syntax.specs.View.{declarator_of}
 use Rattle.c_syntax.specs.Grammar.{HasName}
-use Rattle.c_parser_refusals.specs.Opens.{DeepItem, DeepDeclarator}
-use Rattle.c_parser_refusals.specs.Phrases.{inner}
+use Rattle.c_syntax_printing.specs.Opens.{DeepItem, DeepDeclarator}
+use Rattle.c_syntax_printing.specs.Phrases.{inner}
 use Rattle.c_parser.specs.Nesting.{OpensAs, OpensInBlock, OpensParts}
 use Rattle.c_parser.proofs.ItemGoesOn.{item_declarator_goes_on, item_parts_go_on, body_then}
 use Rattle.c_parser.proofs.Passing.{passed, passed_deep, passed_flat}

@@ -1,12 +1,12 @@
 use Rattle.std.proofs.Common.{ap, length, arith}
 use Rattle.c_parser.proofs.ItemLemmas.{is_struct_item}
-use Rattle.c_parser_refusals.specs.Phrases.{any}
-use Rattle.c_parser_refusals.specs.Items.{AnItem, InStruct}
+use Rattle.c_syntax_printing.specs.Phrases.{any}
+use Rattle.c_syntax_printing.specs.Items.{AnItem, InStruct}
 use Rattle.c_parser_phrases.specs.Refusing.{bound_of}
 use Rattle.c_parser.proofs.StmtStops.{raised, raised_flat, ends_at}
 use Rattle.c_parser.proofs.ItemStops.{third_at, struct_unnamed, struct_leads, no_ending}
-use Rattle.c_parser_refusals.specs.Opens.{DeepItem}
-use Rattle.c_parser_refusals.specs.Deep.{DeepMembers}
+use Rattle.c_syntax_printing.specs.Opens.{DeepItem}
+use Rattle.c_syntax_printing.specs.Deep.{DeepMembers}
 use Rattle.c_parser.specs.Nesting.{OpensAs}
 use Rattle.c_parser.proofs.ItemGoesOn.{struct_goes_on}
 use Rattle.c_parser.proofs.Passing.{passed, passed_flat}

@@ -1,9 +1,9 @@
 use Rattle.std.proofs.Common.{ap, length, arith}
 use Rattle.c_parser.proofs.ItemLemmas.{is_tag_item}
-use Rattle.c_parser_refusals.specs.Items.{AnItem}
+use Rattle.c_syntax_printing.specs.Items.{AnItem}
 use Rattle.c_parser.proofs.StmtStops.{raised_flat}
 use Rattle.c_parser.proofs.ItemStops.{third_at, struct_unnamed}
-use Rattle.c_parser_refusals.specs.Opens.{DeepItem}
+use Rattle.c_syntax_printing.specs.Opens.{DeepItem}
 use Rattle.c_parser.specs.Nesting.{OpensAs}
 use Rattle.c_parser.proofs.Passing.{passed_flat}
 use Rattle.c_parser.proofs.items.tag_item.Goals as goal

@@ -1,13 +1,13 @@
 use Rattle.std.proofs.Common.{ap, length, arith, ◌∙◌, sym, refl}
 use Rattle.c_parser.proofs.StmtLemmas.{default_before, case_before}
-use Rattle.c_parser_refusals.specs.Phrases.{any}
+use Rattle.c_syntax_printing.specs.Phrases.{any}
 use Rattle.c_parser.proofs.StmtStops.{raised, ends_at}
 use Rattle.c_parser.proofs.LoopStops.{default_unclosed, default_leads, value_fails, case_unclosed, case_leads, no_label_from}
-use Rattle.c_parser_refusals.specs.Phrases.{AnExpr, SomeLabels}
+use Rattle.c_syntax_printing.specs.Phrases.{AnExpr, SomeLabels}
 use Rattle.c_syntax.specs.Grammar.{conditional_level}
 use Rattle.c_parser_phrases.specs.Refusing.{bound_of}
-use Rattle.c_parser_refusals.specs.Opens.{DeepExpr}
-use Rattle.c_parser_refusals.specs.Deep.{DeepLabels}
+use Rattle.c_syntax_printing.specs.Opens.{DeepExpr}
+use Rattle.c_syntax_printing.specs.Deep.{DeepLabels}
 use Rattle.c_parser.specs.Nesting.{OpensAs}
 use Rattle.c_parser.proofs.StmtGoesOn.{value_goes_on, default_then, case_then}
 use Rattle.c_parser.proofs.Passing.{passed_deep}

@@ -3,9 +3,9 @@ use Rattle.c_parser.specs.Lists.{ends}
 use Rattle.c_parser.proofs.ListLemmas.{goes_first, goes_more, goes_end, rest_of}
 use Rattle.c_parser.proofs.StmtStops.{raised}
 use Rattle.c_parser.proofs.LoopStops.{label_next, next_label_fails}
-use Rattle.c_parser_refusals.specs.Phrases.{SomeLabels}
+use Rattle.c_syntax_printing.specs.Phrases.{SomeLabels}
 use Rattle.c_parser_phrases.specs.Refusing.{bound_of}
-use Rattle.c_parser_refusals.specs.Deep.{DeepLabels}
+use Rattle.c_syntax_printing.specs.Deep.{DeepLabels}
 use Rattle.c_parser.specs.Nesting.{OpensAs}
 use Rattle.c_parser.proofs.Passing.{passed}
 use Rattle.c_parser.proofs.labels.labels.Goals as goal

@@ -1,10 +1,10 @@
 use Rattle.std.proofs.Common.{◌<◌, ℕ, List, length}
 use Rattle.c_lexer.specs.declared.token.Token.{Token}
-use Rattle.c_parser_refusals.specs.Opens.{Opens}
-use Rattle.c_parser_refusals.specs.Deep.{DeepLabels}
-use Rattle.c_parser_refusals.specs.Fails.{Fails}
-use Rattle.c_parser_refusals.specs.Phrases.{Bound, SomeLabels}
-use Rattle.c_parser_refusals.specs.Labels.{LabelsRest}
+use Rattle.c_syntax_printing.specs.Opens.{Opens}
+use Rattle.c_syntax_printing.specs.Deep.{DeepLabels}
+use Rattle.c_syntax_printing.specs.Fails.{Fails}
+use Rattle.c_syntax_printing.specs.Phrases.{Bound, SomeLabels}
+use Rattle.c_syntax_printing.specs.Labels.{LabelsRest}
 use Rattle.c_parser.specs.Lists.{Goes, Rest}
 use Rattle.c_parser.specs.Parsed.{AreLabels}
 use Rattle.c_parser.proofs.labels.labels.Given as goal

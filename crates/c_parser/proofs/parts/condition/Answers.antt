@@ -1,12 +1,12 @@
 use Rattle.std.proofs.Common.{ap, length, arith}
 use Rattle.c_parser.proofs.StmtLemmas.{condition_of}
-use Rattle.c_parser_refusals.specs.Phrases.{any}
+use Rattle.c_syntax_printing.specs.Phrases.{any}
 use Rattle.c_parser.proofs.StmtStops.{raised, ends_at, no_parenthesis, condition_fails, condition_unclosed}
-use Rattle.c_parser_refusals.specs.Phrases.{AnExpr}
+use Rattle.c_syntax_printing.specs.Phrases.{AnExpr}
 use Rattle.c_parser.specs.Refusing.{ACondition}
 use Rattle.c_syntax.specs.Grammar.{expression_level}
 use Rattle.c_parser_phrases.specs.Refusing.{bound_of}
-use Rattle.c_parser_refusals.specs.Opens.{DeepExpr}
+use Rattle.c_syntax_printing.specs.Opens.{DeepExpr}
 use Rattle.c_parser.specs.Nesting.{OpensInside}
 use Rattle.c_parser.proofs.StmtGoesOn.{test_goes_on}
 use Rattle.c_parser.proofs.Passing.{passed_deep}

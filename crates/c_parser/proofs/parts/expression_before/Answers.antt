@@ -1,13 +1,13 @@
 use Rattle.std.proofs.Common.{ap, length, arith, sym}
 use Rattle.c_parser.proofs.StmtLemmas.{maybe_none, maybe_some, maybe_from}
-use Rattle.c_parser_refusals.specs.Phrases.{any}
-use Rattle.c_parser_refusals.proofs.Combine.{fails_at}
+use Rattle.c_syntax_printing.specs.Phrases.{any}
+use Rattle.c_syntax_printing.proofs.Combine.{fails_at}
 use Rattle.c_parser.proofs.StmtStops.{raised, ends_at, before_fails, before_unclosed}
-use Rattle.c_parser_refusals.specs.Phrases.{AnExpr}
+use Rattle.c_syntax_printing.specs.Phrases.{AnExpr}
 use Rattle.c_parser.specs.Refusing.{ABefore}
 use Rattle.c_syntax.specs.Grammar.{expression_level}
 use Rattle.c_parser_phrases.specs.Refusing.{bound_of}
-use Rattle.c_parser_refusals.specs.Opens.{DeepExpr}
+use Rattle.c_syntax_printing.specs.Opens.{DeepExpr}
 use Rattle.c_parser.specs.Nesting.{OpensExpr}
 use Rattle.c_parser.proofs.StmtGoesOn.{opens_at}
 use Rattle.c_parser.proofs.Passing.{passed_deep}

@@ -1,5 +1,5 @@
 use Rattle.std.proofs.Common.{arith}
-use Rattle.c_parser_refusals.proofs.PartFails.{no_stmt_left, no_stmt_begins}
+use Rattle.c_syntax_printing.proofs.PartFails.{no_stmt_left, no_stmt_begins}
 use Rattle.c_parser.proofs.FirstGoesOn.{no_room_nests}
 use Rattle.c_parser.proofs.starts.no_room.Goals as goal
 

@@ -4,22 +4,22 @@ use Rattle.c_parser.specs.Lists.{ends}
 use Rattle.c_parser.proofs.ListLemmas.{goes_none, goes_first, goes_more, goes_from, goes_begun, goes_end, rest_of}
 use Rattle.c_parser.proofs.RoomLemmas.{stmt_from_word, begins_as}
 use Rattle.c_parser.proofs.StmtLemmas.{block_stmt, node_is, is_if, is_if_else, is_while, is_do, is_for, is_switch, stmt_before, block_stmt_before, group_stands, block_done, groups_done, stmt_until, at_else}
-use Rattle.c_syntax.proofs.StmtCases.{stmt_head}
+use Rattle.c_syntax_printing.proofs.StmtCases.{stmt_head}
 use Rattle.c_parser_phrases.proofs.Known.{not_there}
-use Rattle.c_parser_refusals.specs.Phrases.{any}
-use Rattle.c_parser_refusals.proofs.Combine.{fails_at}
+use Rattle.c_syntax_printing.specs.Phrases.{any}
+use Rattle.c_syntax_printing.proofs.Combine.{fails_at}
 use Rattle.c_parser.proofs.StmtStops.{raised, raised_in, raised_inner, raised_within, only_memory, ends_at, no_room_left, stops_deep}
 use Rattle.c_parser.proofs.StmtStops.{if_head, if_yes, if_no, while_head, while_body, do_body, do_word, do_head, do_end, for_head, for_body, switch_head, switch_brace, switch_groups}
 use Rattle.c_parser.proofs.LoopStops.{item_fails, item_leads, item_from, stmt_item, statement_fails, block_fails, if_fails, while_fails, do_fails, for_fails, switch_fails, group_labels_fail, group_body_fails, group_leads, group_goes, group_ends, labels_from, first_statement_fails, first_statement_leads, deep_compound}
-use Rattle.c_parser_refusals.specs.Phrases.{AStmt, ABlockItem, SomeLabels, InBlock, InSwitch, IfTail, WhileTail, DoTail, ForTail, SwitchTail}
-use Rattle.c_parser_refusals.specs.Groups.{InGroup}
+use Rattle.c_syntax_printing.specs.Phrases.{AStmt, ABlockItem, SomeLabels, InBlock, InSwitch, IfTail, WhileTail, DoTail, ForTail, SwitchTail}
+use Rattle.c_syntax_printing.specs.Groups.{InGroup}
 use Rattle.c_parser.specs.Refusing.{ACondition, AHead}
 use Rattle.c_parser_phrases.specs.Refusing.{bound_of}
 use Rattle.c_lexer.specs.declared.keyword.TheConstants.{IF, WHILE, DO, FOR, SWITCH}
-use Rattle.c_parser_refusals.specs.Opens.{DeepStmt, DeepBlock}
-use Rattle.c_parser_refusals.specs.Phrases.{inner}
-use Rattle.c_parser_refusals.proofs.StmtOpens.{item_stmt_opens}
-use Rattle.c_parser_refusals.specs.Deep.{DeepLabels, DeepStmts, DeepGroups}
+use Rattle.c_syntax_printing.specs.Opens.{DeepStmt, DeepBlock}
+use Rattle.c_syntax_printing.specs.Phrases.{inner}
+use Rattle.c_syntax_printing.proofs.StmtOpens.{item_stmt_opens}
+use Rattle.c_syntax_printing.specs.Deep.{DeepLabels, DeepStmts, DeepGroups}
 use Rattle.c_parser.specs.Nesting.{OpensAs, OpensAfter, OpensInside, OpensInBlock}
 use Rattle.c_parser.proofs.StmtGoesOn.{opens_at, after_word, if_test, if_body, if_else, while_test, while_body as while_opens, do_body as do_opens, do_test, for_body as for_opens, switch_test, switch_groups as groups_open, labels_go_on, body_goes_on, group_then, stmt_first, stmts_then, stmt_then}
 use Rattle.c_parser.proofs.Passing.{block_then, compound_nests, memory_wants, passed, passed_in, passed_within}

@@ -1,11 +1,11 @@
 use Rattle.std.proofs.Common.{◌<◌, ◌≤◌, ◌+◌, ◌*◌, ℕ, List, drop, length}
 use Rattle.c_lexer.specs.declared.token.Token.{Token}
-use Rattle.c_syntax.proofs.Heads.{head}
-use Rattle.c_parser_refusals.specs.Fails.{Fails}
-use Rattle.c_parser_refusals.specs.Phrases.{Bound, InBlock, InSwitch}
-use Rattle.c_parser_refusals.specs.Groups.{InGroup, GroupRest}
-use Rattle.c_parser_refusals.specs.Opens.{Opens, DeepBlock}
-use Rattle.c_parser_refusals.specs.Deep.{DeepGroups, DeepStmts}
+use Rattle.c_syntax_printing.specs.Heads.{head}
+use Rattle.c_syntax_printing.specs.Fails.{Fails}
+use Rattle.c_syntax_printing.specs.Phrases.{Bound, InBlock, InSwitch}
+use Rattle.c_syntax_printing.specs.Groups.{InGroup, GroupRest}
+use Rattle.c_syntax_printing.specs.Opens.{Opens, DeepBlock}
+use Rattle.c_syntax_printing.specs.Deep.{DeepGroups, DeepStmts}
 use Rattle.c_parser.specs.Lists.{Goes, Rest}
 use Rattle.c_parser.specs.Parsed.{AreBlockItems, AreStmts, AreGroups}
 use Rattle.c_parser.proofs.statements.+statement.Given as goal

@@ -1,10 +1,10 @@
 use Rattle.c_parser.proofs.StmtLemmas.{decl_before}
 use Rattle.c_parser.proofs.StmtStops.{raised}
 use Rattle.c_parser.proofs.LoopStops.{plain_item, declaration_fails}
-use Rattle.c_parser_refusals.specs.Phrases.{APlainDecl, ABlockItem}
+use Rattle.c_syntax_printing.specs.Phrases.{APlainDecl, ABlockItem}
 use Rattle.c_parser_phrases.specs.Refusing.{bound_of}
-use Rattle.c_parser_refusals.specs.Opens.{DeepDecl, DeepBlock}
-use Rattle.c_parser_refusals.proofs.StmtOpens.{item_decl_opens}
+use Rattle.c_syntax_printing.specs.Opens.{DeepDecl, DeepBlock}
+use Rattle.c_syntax_printing.proofs.StmtOpens.{item_decl_opens}
 use Rattle.c_parser.specs.Nesting.{OpensAs}
 use Rattle.c_parser.proofs.StmtGoesOn.{decl_then}
 use Rattle.c_parser.proofs.Passing.{passed}

@@ -2,14 +2,14 @@ use Rattle.std.proofs.Common.{ap, length, arith}
 use Rattle.c_parser.proofs.StmtLemmas.{first_none, first_is, first_declares, first_from}
 use Rattle.std.proofs.Common.{sym}
 use Rattle.c_parser_phrases.proofs.Known.{not_there}
-use Rattle.c_parser_refusals.specs.Phrases.{any}
-use Rattle.c_parser_refusals.proofs.Combine.{fails_at}
+use Rattle.c_syntax_printing.specs.Phrases.{any}
+use Rattle.c_syntax_printing.proofs.Combine.{fails_at}
 use Rattle.c_parser.proofs.StmtStops.{raised, ends_at}
 use Rattle.c_parser.proofs.LoopStops.{first_declaration_fails, first_expression_fails, first_unclosed}
-use Rattle.c_parser_refusals.specs.Phrases.{AFirst, APlainDecl, AnExpr}
+use Rattle.c_syntax_printing.specs.Phrases.{AFirst, APlainDecl, AnExpr}
 use Rattle.c_syntax.specs.Grammar.{expression_level}
 use Rattle.c_parser_phrases.specs.Refusing.{bound_of}
-use Rattle.c_parser_refusals.specs.Opens.{DeepDecl, DeepExpr}
+use Rattle.c_syntax_printing.specs.Opens.{DeepDecl, DeepExpr}
 use Rattle.c_parser.specs.Nesting.{OpensAs, OpensInHead}
 use Rattle.c_parser.proofs.StmtGoesOn.{opens_at, first_declaration, first_expression}
 use Rattle.c_parser.proofs.Passing.{passed, passed_deep}

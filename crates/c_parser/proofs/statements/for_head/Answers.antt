@@ -1,7 +1,7 @@
-use Rattle.c_parser_refusals.specs.Phrases.{any}
+use Rattle.c_syntax_printing.specs.Phrases.{any}
 use Rattle.c_parser.proofs.StmtStops.{raised, ends_at, no_head, first_fails, test_fails, step_fails}
 use Rattle.c_parser.proofs.StmtLemmas.{head_is}
-use Rattle.c_parser_refusals.specs.Phrases.{AFirst}
+use Rattle.c_syntax_printing.specs.Phrases.{AFirst}
 use Rattle.c_parser.specs.Refusing.{ABefore, AHead}
 use Rattle.c_lexer.specs.declared.punctuator.TheConstants.{SEMICOLON, RIGHT_PARENTHESIS}
 use Rattle.c_parser_phrases.specs.Refusing.{bound_of}

@@ -1,16 +1,16 @@
 use Rattle.std.proofs.Common.{ap, ◌∙◌, sym}
 use Rattle.c_syntax.specs.Tokens.{place}
 use Rattle.c_parser.proofs.StmtLemmas.{is_empty, is_break, is_continue, is_return, is_evaluation, stmt_is, stmt_from}
-use Rattle.c_parser_refusals.specs.Phrases.{any}
-use Rattle.c_parser_refusals.proofs.Combine.{fails_at}
+use Rattle.c_syntax_printing.specs.Phrases.{any}
+use Rattle.c_syntax_printing.proofs.Combine.{fails_at}
 use Rattle.c_parser.proofs.StmtStops.{raised_in, ends_at}
 use Rattle.c_parser.proofs.LoopStops.{return_fails, break_fails, continue_fails, no_other, other_from, evaluation_fails, evaluation_unclosed}
-use Rattle.c_parser_refusals.specs.Phrases.{AStmt, AnExpr}
+use Rattle.c_syntax_printing.specs.Phrases.{AStmt, AnExpr}
 use Rattle.c_parser.specs.Refusing.{ABefore}
 use Rattle.c_syntax.specs.Grammar.{expression_level}
 use Rattle.c_lexer.specs.declared.punctuator.TheConstants.{SEMICOLON}
 use Rattle.c_parser_phrases.specs.Refusing.{bound_of}
-use Rattle.c_parser_refusals.specs.Opens.{DeepStmt, DeepExpr}
+use Rattle.c_syntax_printing.specs.Opens.{DeepStmt, DeepExpr}
 use Rattle.c_parser.specs.Nesting.{OpensAs, OpensExpr}
 use Rattle.c_parser.proofs.StmtGoesOn.{return_goes_on, evaluation_goes_on}
 use Rattle.c_parser.proofs.Passing.{passed_deep_in, passed_in}

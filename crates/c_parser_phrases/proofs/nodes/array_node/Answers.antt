@@ -1,7 +1,7 @@
 use Rattle.std.proofs.Common.{◌∙◌}
 use Rattle.c_parser_phrases.proofs.Rows.{array_is}
 use Rattle.std.proofs.Common.{refl, inr}
-use Rattle.c_parser_refusals.specs.Nodes.{in_array, in_size}
+use Rattle.c_syntax_printing.specs.Nodes.{in_array, in_size}
 use Rattle.c_parser_phrases.proofs.Deepest.{node_deep_declarator, beside_declarator, part_declarator, part_size}
 use Rattle.c_parser_phrases.proofs.nodes.array_node.Goals as goal
 

@@ -1,5 +1,5 @@
 use Rattle.std.proofs.Common.{refl, inr, ◌∙◌}
-use Rattle.c_parser_refusals.specs.Nodes.{in_left, in_right}
+use Rattle.c_syntax_printing.specs.Nodes.{in_left, in_right}
 use Rattle.c_parser_phrases.proofs.Deepest.{node_deep, beside_expr}
 use Rattle.c_parser_phrases.proofs.nodes.binary_node.Goals as goal
 

@@ -1,5 +1,5 @@
 use Rattle.std.proofs.Common.{◌∙◌, refl, inr}
-use Rattle.c_parser_refusals.specs.Nodes.{in_called, in_arguments}
+use Rattle.c_syntax_printing.specs.Nodes.{in_called, in_arguments}
 use Rattle.c_parser_phrases.proofs.Deepest.{node_deep, beside_expr, part_exprs}
 use Rattle.c_parser_phrases.proofs.Rows.{call_is, call_height}
 use Rattle.c_parser_phrases.proofs.nodes.call_node.Goals as goal

@@ -1,5 +1,5 @@
 use Rattle.std.proofs.Common.{refl, inr}
-use Rattle.c_parser_refusals.specs.Nodes.{in_cast_type, in_cast}
+use Rattle.c_syntax_printing.specs.Nodes.{in_cast_type, in_cast}
 use Rattle.c_parser_phrases.proofs.Deepest.{node_deep, beside_expr, part_type}
 use Rattle.c_parser_phrases.proofs.nodes.cast_node.Goals as goal
 

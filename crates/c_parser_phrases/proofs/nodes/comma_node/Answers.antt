@@ -1,5 +1,5 @@
 use Rattle.std.proofs.Common.{◌∙◌, refl}
-use Rattle.c_parser_refusals.specs.Nodes.{in_comma}
+use Rattle.c_syntax_printing.specs.Nodes.{in_comma}
 use Rattle.c_parser_phrases.proofs.Deepest.{node_deep, part_exprs}
 use Rattle.c_parser_phrases.proofs.Rows.{comma_is, comma_height}
 use Rattle.c_parser_phrases.proofs.nodes.comma_node.Goals as goal

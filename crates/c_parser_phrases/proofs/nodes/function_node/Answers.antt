@@ -1,5 +1,5 @@
 use Rattle.std.proofs.Common.{◌∙◌, refl, inr}
-use Rattle.c_parser_refusals.specs.Nodes.{in_function, in_params}
+use Rattle.c_syntax_printing.specs.Nodes.{in_function, in_params}
 use Rattle.c_parser_phrases.proofs.Deepest.{node_deep_declarator, beside_declarator, part_declarator, part_params}
 use Rattle.c_parser_phrases.proofs.Rows.{function_is, function_height}
 use Rattle.c_parser_phrases.proofs.nodes.function_node.Goals as goal

@@ -1,7 +1,7 @@
 use Rattle.std.proofs.Common.{◌∙◌}
 use Rattle.c_parser_phrases.proofs.Rows.{pointer_is}
 use Rattle.std.proofs.Common.{refl, inr}
-use Rattle.c_parser_refusals.specs.Nodes.{in_pointer}
+use Rattle.c_syntax_printing.specs.Nodes.{in_pointer}
 use Rattle.c_parser_phrases.proofs.Deepest.{node_deep_declarator, part_declarator}
 use Rattle.c_parser_phrases.proofs.nodes.pointer_node.Goals as goal
 

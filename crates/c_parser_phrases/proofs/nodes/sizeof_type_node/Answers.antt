@@ -1,5 +1,5 @@
 use Rattle.std.proofs.Common.{refl}
-use Rattle.c_parser_refusals.specs.Nodes.{in_sizeof}
+use Rattle.c_syntax_printing.specs.Nodes.{in_sizeof}
 use Rattle.c_parser_phrases.proofs.Deepest.{node_deep, part_type}
 use Rattle.c_parser_phrases.proofs.nodes.sizeof_type_node.Goals as goal
 

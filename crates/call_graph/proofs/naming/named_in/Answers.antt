@@ -1,5 +1,5 @@
 use Rattle.std.proofs.Common.{◌≡◌, []}
-use Rattle.c_shapes.specs.Mentions.{Named}
+use Rattle.c_meaning_laws.specs.Mentions.{Named}
 use Rattle.call_graph.specs.Saying.{mention_of}
 use Rattle.dm_base.proofs.AddingLemmas.{adds_step, adds_end}
 use Rattle.call_graph.proofs.NamingLemmas.{named_all}

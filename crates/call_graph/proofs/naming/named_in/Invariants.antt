@@ -1,5 +1,5 @@
 use Rattle.std.proofs.Common.{◌≡◌, [], take}
-use Rattle.c_shapes.specs.Mentions.{Named}
+use Rattle.c_meaning_laws.specs.Mentions.{Named}
 use Rattle.dm_base.specs.Adding.{Has, Adds}
 use Rattle.call_graph.specs.Saying.{mention_of}
 use Rattle.call_graph.proofs.naming.named_in.Given as goal

@@ -1,7 +1,7 @@
 use Rattle.std.proofs.Common.{◌∷◌, [], ◌++◌, ◌∙◌, ap, sym}
 use Rattle.std.proofs.lemmas.List.{append_assoc}
 use Rattle.c_tree.specs.View.{ctype_of, expr_of, exprs_of}
-use Rattle.c_shapes.specs.Mentions.{Calls, Direct, Through, mentions, mentions_of_all}
+use Rattle.c_meaning_laws.specs.Mentions.{Calls, Direct, Through, mentions, mentions_of_all}
 use Rattle.c_tree.specs.declared.tree.TExpr.{TExpr}
 use Rattle.call_graph.specs.Saying.{said}
 use Rattle.call_graph.proofs.SayingLemmas.{of_comma, of_call, of_call_through, all_flat, all_of_flat, on_same, then_on, two_parts}

@@ -2,7 +2,7 @@ use Rattle.std.proofs.Common.{◌++◌, ◌∙◌, ap, sym}
 use Rattle.std.proofs.lemmas.List.{append_assoc}
 use Rattle.c_tree.specs.View.{expr_of, maybe_of, stmt_of, stmts_of, groups_of}
 use Rattle.c_tree.specs.declared.tree.TGroup.{TGroup}
-use Rattle.c_shapes.specs.Mentions.{mentions, mentions_of_maybe, mentions_of_stmt, mentions_of_stmts, mentions_of_groups}
+use Rattle.c_meaning_laws.specs.Mentions.{mentions, mentions_of_maybe, mentions_of_stmt, mentions_of_stmts, mentions_of_groups}
 use Rattle.call_graph.specs.Saying.{said}
 use Rattle.call_graph.proofs.SayingLemmas.{of_block, of_for, of_switch, stmts_flat, groups_flat, all_of_flat, on_same, then_on, two_parts}
 use Rattle.call_graph.proofs.saying.+statements.Goals as goal

@@ -1,7 +1,7 @@
 use Rattle.std.proofs.Common.{◌≡◌, ◌++◌, take}
 use Rattle.std.specs.Prelude.{flat_map}
 use Rattle.c_tree.specs.View.{stmt_of, stmts_of}
-use Rattle.c_shapes.specs.Mentions.{mentions_of_stmt, mentions_of_stmts}
+use Rattle.c_meaning_laws.specs.Mentions.{mentions_of_stmt, mentions_of_stmts}
 use Rattle.call_graph.specs.Saying.{said}
 use Rattle.call_graph.proofs.saying.+statements.Given as goal
 

@@ -1,6 +1,6 @@
 use Rattle.std.proofs.Common.{◌++◌, ◌∙◌, ap, sym}
 use Rattle.c_tree.specs.View.{expr_of}
-use Rattle.c_shapes.specs.Mentions.{mentions}
+use Rattle.c_meaning_laws.specs.Mentions.{mentions}
 use Rattle.c_tree.specs.declared.tree.TInit.{TInit}
 use Rattle.call_graph.specs.Saying.{said}
 use Rattle.call_graph.proofs.SayingLemmas.{inits_flat, all_of_flat}

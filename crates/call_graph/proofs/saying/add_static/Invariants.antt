@@ -1,6 +1,6 @@
 use Rattle.std.proofs.Common.{◌≡◌, ◌++◌, take}
 use Rattle.std.specs.Prelude.{flat_map}
-use Rattle.c_shapes.specs.Mentions.{mention_of_cell}
+use Rattle.c_meaning_laws.specs.Mentions.{mention_of_cell}
 use Rattle.call_graph.specs.Saying.{said}
 use Rattle.call_graph.proofs.saying.add_static.Given as goal
 

@@ -2,7 +2,7 @@ use Rattle.std.proofs.Common.{[], ◌++◌, ◌∙◌, ap, sym}
 use Rattle.std.specs.Prelude.{flat_map}
 use Rattle.std.proofs.lemmas.Option.{slice_get_within, get_or_from_slice_get}
 use Rattle.c_tree.specs.View.{function_of, static_of}
-use Rattle.c_shapes.specs.Mentions.{mentions_of_function, mentions_of_static}
+use Rattle.c_meaning_laws.specs.Mentions.{mentions_of_function, mentions_of_static}
 use Rattle.call_graph.specs.Saying.{said}
 use Rattle.call_graph.proofs.SayingLemmas.{more_flat, all_of_flat, program_said}
 use Rattle.call_graph.proofs.saying.said_in.Goals as goal

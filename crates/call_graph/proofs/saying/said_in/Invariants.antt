@@ -1,7 +1,7 @@
 use Rattle.std.proofs.Common.{◌≡◌, ◌++◌, take}
 use Rattle.std.specs.Prelude.{flat_map}
 use Rattle.c_tree.specs.View.{function_of, static_of}
-use Rattle.c_shapes.specs.Mentions.{mentions_of_function, mentions_of_static}
+use Rattle.c_meaning_laws.specs.Mentions.{mentions_of_function, mentions_of_static}
 use Rattle.call_graph.specs.Saying.{said}
 use Rattle.call_graph.proofs.saying.said_in.Given as goal
 

@@ -1,6 +1,6 @@
 use Rattle.std.proofs.Common.{◌≡◌, ◌<◌, ℕ, length, take, None}
 use Rattle.std.specs.Prelude.{slice_index_or}
-use Rattle.c_shapes.specs.CallGraph.{callee_at}
+use Rattle.c_meaning_laws.specs.CallGraph.{callee_at}
 use Rattle.call_graph.specs.Saying.{said}
 use Rattle.call_graph.specs.Types.{types_at}
 use Rattle.call_graph.specs.Places.{placed}

@@ -2,7 +2,7 @@ use Rattle.std.proofs.Common.{◌&&◌, ◌∙◌, sym, ap, ℕ, Vec, Global}
 use Rattle.c_tree.specs.Functions.{value_type}
 use Rattle.c_tree.specs.Tree.{pointer}
 use Rattle.c_tree.specs.View.{ctype_of, program_of}
-use Rattle.c_shapes.specs.CallGraph.{is_taken, is_typed}
+use Rattle.c_meaning_laws.specs.CallGraph.{is_taken, is_typed}
 use Rattle.call_graph.proofs.TypesLemmas.{passed_true, passed_false}
 use Rattle.call_graph.proofs.types.candidates_at.Goals.{then-is_candidate+in_ok-push, else-is_candidate}
 use Rattle.call_graph.proofs.types.candidates_at.Goals as goal

@@ -3,7 +3,7 @@ use Rattle.std.specs.List.{range_with_len}
 use Rattle.c_tree.specs.Functions.{value_type}
 use Rattle.c_tree.specs.Tree.{pointer}
 use Rattle.c_tree.specs.View.{ctype_of, program_of}
-use Rattle.c_shapes.specs.CallGraph.{is_taken, is_typed}
+use Rattle.c_meaning_laws.specs.CallGraph.{is_taken, is_typed}
 use Rattle.call_graph.proofs.types.candidates_at.Given as goal
 
 abbrev pub invariant-loop-f : goal.invariant-loop-f

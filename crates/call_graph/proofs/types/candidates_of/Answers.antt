@@ -1,6 +1,6 @@
 use Rattle.std.proofs.Common.{◌∙◌, sym, ap}
 use Rattle.c_tree.specs.View.{ctype_of, program_of}
-use Rattle.c_shapes.specs.CallGraph.{is_typed}
+use Rattle.c_meaning_laws.specs.CallGraph.{is_typed}
 use Rattle.call_graph.proofs.TypesLemmas.{no_callees}
 use Rattle.call_graph.proofs.types.candidates_of.Goals as goal
 

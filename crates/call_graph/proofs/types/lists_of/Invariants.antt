@@ -1,7 +1,7 @@
 use Rattle.std.proofs.Common.{◌≡◌, map, take}
 use Rattle.c_tree.specs.View.{program_of}
-use Rattle.c_shapes.specs.CallGraph.{callees}
-use Rattle.c_shapes.specs.Mentions.{Through}
+use Rattle.c_meaning_laws.specs.CallGraph.{callees}
+use Rattle.c_meaning_laws.specs.Mentions.{Through}
 use Rattle.call_graph.specs.Types.{types_at, items_of}
 use Rattle.call_graph.proofs.types.lists_of.Given as goal
 

@@ -1,8 +1,8 @@
 use Rattle.std.proofs.Common.{◌++◌, ◌∙◌, ap, refl, sym, arith, drop, ◌+◌, ◌^◌}
-use Rattle.c_shapes.specs.Shape.{Cases}
+use Rattle.c_meaning_laws.specs.Shape.{Cases}
 use Rattle.flow_graph.specs.View.{shape_of, parts_of}
 use Rattle.flow_graph.specs.Edges.{edges_in, places_of}
-use Rattle.flow_graph_laws.specs.Layout.{edges, edges_of_parts, width, count}
+use Rattle.c_meaning_laws.specs.GraphLayout.{edges, edges_of_parts, width, count}
 use Rattle.flow_graph.proofs.LayingLemmas.{parts_many, of_cases, on_same, next_same, laid_more, fresh_more, seq_laid, seq_next, rest_nodes, first_fits, rest_fits, cases_fit}
 use Rattle.flow_graph.specs.declared.shape.Shape.TheViews.{size-Shape, sized-Seq, sized-Cases}
 use Rattle.flow_graph.proofs.laying.+laying.Goals as goal

@@ -1,7 +1,7 @@
 use Rattle.std.proofs.Common.{◌∙◌, ap, ap₂, sym}
 use Rattle.c_tree.specs.View.{groups_of}
-use Rattle.c_shapes.specs.Shape.{Cases}
-use Rattle.c_shapes.specs.ShapeOf.{seq_two}
+use Rattle.c_meaning_laws.specs.Shape.{Cases}
+use Rattle.c_meaning_laws.specs.ShapeOf.{seq_two}
 use Rattle.flow_graph.specs.View.{shape_of, parts_of}
 use Rattle.flow_graph.proofs.Rows.{cases_is}
 use Rattle.flow_graph.proofs.statements.switch_of.Goals as goal

@@ -1,11 +1,11 @@
 use Rattle.std.proofs.Common.{◌≡◌, ℕ, ◌≤◌, List, length, subst}
 use Rattle.dm_base.specs.declared.mode.Mode.TheVariants.{Instrumented}
 use Rattle.sys_table.specs.declared.sys_result.SysResult.{SysResult}
-use Rattle.null_calls_texts_laws.specs.MarkedRuns.{marked_run}
+use Rattle.null_calls_laws.specs.MarkedRuns.{marked_run}
 use Rattle.c_meaning.specs.Runs.{run}
 use Rattle.c_rules.specs.Accepted.{IsAcceptedAs}
 use Rattle.c_tree.specs.Tree.{Program}
-use Rattle.null_calls_texts_laws.specs.Instrumented.{instrumented_text, DoesAsMarked}
+use Rattle.null_calls_laws.specs.InstrumentedTexts.{instrumented_text, DoesAsMarked}
 use Rattle.headline.specs.AcceptedRuns.{RaisesNoAlarm}
 use Rattle.headline.proofs.Contained.{models_of, nested, verdict_is_membership}
 use Rattle.headline.proofs.laws.texts_keep_the_headline.Goals as goal

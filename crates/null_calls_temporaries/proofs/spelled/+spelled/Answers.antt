@@ -5,7 +5,7 @@ use Rattle.c_syntax.specs.View.{declarator_of}
 use Rattle.c_syntax.specs.Writes.{params_of}
 use Rattle.c_syntax_nodes.specs.Seen.{seen}
 use Rattle.c_syntax_nodes.proofs.CopyLemmas.{made_as}
-use Rattle.null_calls_rules.specs.SpelledTypes as types
+use Rattle.null_calls_laws.specs.SpelledTypes as types
 use Rattle.null_calls_temporaries.specs.Spelled.{spelled_param}
 use Rattle.null_calls_temporaries.proofs.SpelledLemmas.{function_spelled}
 use Rattle.null_calls_temporaries.proofs.spelled.+spelled.Goals as goal

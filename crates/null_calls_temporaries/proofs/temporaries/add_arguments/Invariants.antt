@@ -1,6 +1,6 @@
 use Rattle.std.proofs.Common.{◌≡◌, ◌++◌, drop}
 use Rattle.c_tree.specs.View.{types_of}
-use Rattle.null_calls_rules.specs.Temporaries.{arguments_kept}
+use Rattle.null_calls_laws.specs.Temporaries.{arguments_kept}
 use Rattle.null_calls_temporaries.specs.Kept.{temporaries_of}
 use Rattle.null_calls_temporaries.proofs.temporaries.add_arguments.Given as goal
 

@@ -6,7 +6,7 @@ use Rattle.c_tree.specs.Program.{IsProgram}
 use Rattle.c_tree.specs.Tree.{Program}
 use Rattle.c_meaning.specs.Runs.{Run, no_marks}
 use Rattle.c_tree.specs.View.{program_of}
-use Rattle.c_shapes.specs.ProgramLanguages.{Callgraph, Stack}
+use Rattle.c_meaning_laws.specs.ProgramLanguages.{Callgraph, Stack}
 use Rattle.c_meaning_laws.specs.Callees.{CalleesAreCandidates}
 use Rattle.c_meaning_laws.specs.Laws.{IsTypedRun, RunsBeginTyped, TypesAreKept}
 use Rattle.ref_machine.specs.KeptTypes.{HasFunctionValues}

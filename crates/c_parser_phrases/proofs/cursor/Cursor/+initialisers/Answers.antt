@@ -3,13 +3,13 @@ use Rattle.c_parser_phrases.proofs.Known.{not_there}
 use Rattle.c_parser_phrases.proofs.Inits.{one_has, list_has, list_ended, inits_first, inits_more, first_low, grown_low, goes, ends}
 use Rattle.std.proofs.lemmas.Result.{err_from_is_err_and}
 use Rattle.c_syntax.specs.Grammar.{assignment_level}
-use Rattle.c_parser_refusals.specs.Phrases.{any, AnExpr, AnInit}
+use Rattle.c_syntax_printing.specs.Phrases.{any, AnExpr, AnInit}
 use Rattle.c_parser_phrases.proofs.Raising.{told, telling, raised, raised_in, no_memory}
 use Rattle.c_parser_phrases.proofs.RefusalsOfDeclarators.{init_deep, value_init_fails, list_fails, init_fails, init_leads, later_init_fails, later_init_leads, list_refused}
 use Rattle.c_parser_phrases.proofs.RefusalsOfLists.{list_followed}
 use Rattle.c_lexer.specs.declared.punctuator.TheConstants.{LEFT_BRACE}
-use Rattle.c_parser_refusals.specs.Opens.{DeepExpr, DeepInit}
-use Rattle.c_parser_refusals.proofs.InitOpens.{init_value_opens, first_init_opens}
+use Rattle.c_syntax_printing.specs.Opens.{DeepExpr, DeepInit}
+use Rattle.c_syntax_printing.proofs.InitOpens.{init_value_opens, first_init_opens}
 use Rattle.c_parser_phrases.specs.Reading.{OpensInit}
 use Rattle.c_parser_phrases.proofs.Raising.{told_deep}
 use Rattle.c_parser_phrases.proofs.Opened.{some_at}

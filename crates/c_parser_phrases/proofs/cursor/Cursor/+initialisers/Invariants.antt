@@ -4,9 +4,9 @@ use Rattle.c_lexer.specs.declared.token.Token.{Token}
 use Rattle.c_syntax.specs.Limits.{height_of_inits}
 use Rattle.c_syntax.specs.Statements.{ReadsInits}
 use Rattle.c_syntax.specs.WritesUnit.{inits_of}
-use Rattle.c_parser_refusals.specs.Fails.{Fails}
-use Rattle.c_parser_refusals.specs.Phrases.{Bound}
-use Rattle.c_parser_refusals.specs.Initialisers.{InList, ListEnd}
+use Rattle.c_syntax_printing.specs.Fails.{Fails}
+use Rattle.c_syntax_printing.specs.Phrases.{Bound}
+use Rattle.c_syntax_printing.specs.Initialisers.{InList, ListEnd}
 use Rattle.c_parser_phrases.proofs.cursor.Cursor.+initialisers.Given as goal
 
 abbrev pub decreases-initialiser : goal.decreases-initialiser

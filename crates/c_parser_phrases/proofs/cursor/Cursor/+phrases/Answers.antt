@@ -15,13 +15,13 @@ use Rattle.c_parser_phrases.proofs.Declaring.{first_height as params_first_heigh
 use Rattle.c_syntax.specs.Tokens.{place}
 use Rattle.c_lexer.specs.declared.punctuator.TheConstants.{LEFT_PARENTHESIS, ASTERISK, QUESTION, COMMA}
 use Rattle.c_syntax.specs.Grammar.{cast_level}
-use Rattle.c_parser_refusals.specs.Phrases.{any}
-use Rattle.c_parser_refusals.proofs.Combine.{fails_at}
-use Rattle.c_parser_refusals.proofs.LevelFails.{comma_first, assigned_operand_fails, value_fails, test_fails, first_operand}
+use Rattle.c_syntax_printing.specs.Phrases.{any}
+use Rattle.c_syntax_printing.proofs.Combine.{fails_at}
+use Rattle.c_syntax_printing.proofs.LevelFails.{comma_first, assigned_operand_fails, value_fails, test_fails, first_operand}
 use Rattle.c_parser_phrases.proofs.Exits.{taken, taken_word, uncast, paired_type}
 use Rattle.c_parser_phrases.proofs.Starts.{star_there}
 use Rattle.c_parser_phrases.proofs.Deepest.{exprs_first_deep, exprs_grown_deep, params_first_deep, params_grown_deep, type_deep_at, param_deep_at}
-use Rattle.c_parser_refusals.proofs.ExprOpens.{postfix_opens, unary_opens, cast_opens, first_operand_opens, test_opens, value_opens, comma_first_opens, sizeof_operand_opens, index_opens, arguments_open}
+use Rattle.c_syntax_printing.proofs.ExprOpens.{postfix_opens, unary_opens, cast_opens, first_operand_opens, test_opens, value_opens, comma_first_opens, sizeof_operand_opens, index_opens, arguments_open}
 use Rattle.c_parser_phrases.proofs.Opened.{some_at, some_is, some_starts, some_cast, comma_rest_opens, comma_deep, rest_opens, rest_leads_open, assigned_deep, assigned_rest_opens, choice_deep, yes_part_opens, no_part_opens, operator_deep, right_opens, cast_deep, cast_name_opens, cast_part_opens, prefix_opens, prefix_some, moved_unary_open, step_operand_opens, unary_operand_opens, sizeof_name_opens, suffix_opens, suffix_deep, later_argument_opens, first_argument_opens, leaf_opens, leaf_some, pair_opens, inside_opens}
 use Rattle.c_parser_phrases.proofs.OpenedDeclarators.{type_declarator_opens, param_declarator_opens, param_leads_open, later_param_leads_open, later_param_open, pointer_opens_here, pointer_inner_opens, name_opens, named_pair_opens, declarator_pair_opens, inside_declarator_opens, some_inside, parts_open, mark_opens, size_part_opens, params_part_opens}
 use Rattle.c_parser_phrases.proofs.Raising.{nested_at, no_memory, wrong_here, deep_at, raised, raised_in, raised_enclosed, raised_flat, not_at_word, ends_at, past_at, at_from}

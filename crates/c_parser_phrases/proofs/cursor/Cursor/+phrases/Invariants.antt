@@ -6,12 +6,12 @@ use Rattle.c_syntax.specs.Tokens.{place}
 use Rattle.c_syntax.specs.Limits.{height_of_exprs, height_of_params}
 use Rattle.c_syntax.specs.Grammar.{primary_level, cast_level, binary_level, assignment_level, AreSome, Reads, ReadsList, Suffixes, Lengthens, ReadsEach}
 use Rattle.c_syntax.specs.Writes.{exprs_of, params_of}
-use Rattle.c_syntax.proofs.Precedence.{rank, Stops}
-use Rattle.c_parser_refusals.specs.Nodes.{InExprs, InParams}
-use Rattle.c_parser_refusals.specs.Fails.{Fails}
-use Rattle.c_parser_refusals.specs.Phrases.{Bound}
-use Rattle.c_parser_refusals.specs.Operands.{ExprsRest}
-use Rattle.c_parser_refusals.specs.Declarators.{EachClosed, ParamsClosed}
+use Rattle.c_syntax_printing.specs.Ranks.{rank, Stops}
+use Rattle.c_syntax_printing.specs.Nodes.{InExprs, InParams}
+use Rattle.c_syntax_printing.specs.Fails.{Fails}
+use Rattle.c_syntax_printing.specs.Phrases.{Bound}
+use Rattle.c_syntax_printing.specs.Operands.{ExprsRest}
+use Rattle.c_syntax_printing.specs.Declarators.{EachClosed, ParamsClosed}
 use Rattle.c_parser_phrases.specs.declared.form.Form.{Form}
 use Rattle.c_parser_phrases.specs.Standing.{IsAt}
 use Rattle.c_parser_phrases.specs.Deep.{IsDeep, IsDeepDeclarator}

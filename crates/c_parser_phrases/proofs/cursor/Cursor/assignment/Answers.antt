@@ -1,5 +1,5 @@
 use Rattle.std.proofs.Common.{ap, sym, ◌∙◌, arith}
-use Rattle.c_syntax.proofs.Precedence.{rank}
+use Rattle.c_syntax_printing.specs.Ranks.{rank}
 use Rattle.c_parser_phrases.proofs.Known.{empty_rank, rank_at, assignment_of}
 use Rattle.c_parser_phrases.proofs.cursor.Cursor.assignment.Goals as goal
 

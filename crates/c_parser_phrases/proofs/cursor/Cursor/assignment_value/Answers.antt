@@ -1,9 +1,9 @@
 use Rattle.c_parser_phrases.proofs.Made.{expression_has}
 use Rattle.std.proofs.lemmas.Result.{err_from_is_err_and}
 use Rattle.c_syntax.specs.Grammar.{assignment_level}
-use Rattle.c_parser_refusals.specs.Phrases.{AnExpr}
+use Rattle.c_syntax_printing.specs.Phrases.{AnExpr}
 use Rattle.c_parser_phrases.proofs.Raising.{told, told_deep}
-use Rattle.c_parser_refusals.specs.Opens.{DeepExpr}
+use Rattle.c_syntax_printing.specs.Opens.{DeepExpr}
 use Rattle.c_parser_phrases.proofs.cursor.Cursor.assignment_value.Goals as goal
 
 pub returns-clause-parses : goal.returns-clause-parses

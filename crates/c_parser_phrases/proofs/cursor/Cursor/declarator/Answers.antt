@@ -1,8 +1,8 @@
 use Rattle.c_parser_phrases.proofs.Declaring.{declarator_has, named_shorter}
 use Rattle.std.proofs.lemmas.Result.{err_from_is_err_and}
-use Rattle.c_parser_refusals.specs.Phrases.{ADeclarator}
+use Rattle.c_syntax_printing.specs.Phrases.{ADeclarator}
 use Rattle.c_parser_phrases.proofs.Raising.{told, told_deep, raised}
-use Rattle.c_parser_refusals.specs.Opens.{DeepDeclarator}
+use Rattle.c_syntax_printing.specs.Opens.{DeepDeclarator}
 use Rattle.c_syntax.specs.Grammar.{HasName}
 use Rattle.c_parser_phrases.specs.declared.form.Form.TheVariants.{Named}
 use Rattle.c_parser_phrases.specs.Reading.{OpensDeclared}

@@ -1,5 +1,5 @@
 use Rattle.std.proofs.Common.{◌-◌, ap, arith}
-use Rattle.c_syntax.proofs.Precedence.{rank}
+use Rattle.c_syntax_printing.specs.Ranks.{rank}
 use Rattle.c_parser_phrases.proofs.Known.{empty_rank, rank_at, infix_at}
 use Rattle.c_parser_phrases.proofs.cursor.Cursor.operator.Goals as goal
 

@@ -1,5 +1,5 @@
 use Rattle.std.proofs.lemmas.Result.{err_from_is_err_and}
-use Rattle.c_parser_refusals.proofs.SpecFails.{consts_fail}
+use Rattle.c_syntax_printing.proofs.SpecFails.{consts_fail}
 use Rattle.c_parser_phrases.proofs.Known.{not_there}
 use Rattle.c_parser_phrases.proofs.Raising.{flat_as, flat_here}
 use Rattle.c_parser_phrases.proofs.RefusalsOfSpecifiers.{spec_unended}

@@ -1,7 +1,7 @@
 use Rattle.std.proofs.Common.{◌∙◌, ap, ap₂, sym}
 use Rattle.c_tree.specs.View.{expr_of, exprs_of}
-use Rattle.c_shapes.specs.Shape.{End}
-use Rattle.c_shapes.specs.ShapeOf.{before_parts, without_skips, in_turn}
+use Rattle.c_meaning_laws.specs.Shape.{End}
+use Rattle.c_meaning_laws.specs.ShapeOf.{before_parts, without_skips, in_turn}
 use Rattle.flow_graph.specs.View.{shape_of, parts_of}
 use Rattle.flow_graph.specs.Joined.{joined}
 use Rattle.flow_graph.specs.Sited.{call_at, direct_at, expr_at, exprs_at}

@@ -1,5 +1,5 @@
 use Rattle.c_tree.specs.View.{program_of}
-use Rattle.null_calls_rules.specs.MarkedCalls.{sites_of}
+use Rattle.null_calls_laws.specs.MarkedCalls.{sites_of}
 use Rattle.null_calls_temporaries.proofs.SiteLemmas.{AreSited}
 use Rattle.null_calls_temporaries.proofs.marked_sites.MarkedSites.of.Given as goal
 

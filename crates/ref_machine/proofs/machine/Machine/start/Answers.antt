@@ -11,7 +11,7 @@ use Rattle.ref_machine_frames.specs.declared.frames.Now.TheVariants.{Enter}
 use Rattle.ref_machine_frames.specs.Frames.{place_of}
 use Rattle.ref_machine.specs.Futures.{Future}
 use Rattle.ref_machine.specs.Standing.{left_of, state}
-use Rattle.ref_machine.proofs.HeldRuns.{run_same}
+use Rattle.ref_machine_frames.proofs.HeldRuns.{run_same}
 use Rattle.ref_machine.proofs.Starting.{few_statics, small_statics}
 use Rattle.ref_machine.proofs.Resuming.{right_alike}
 use Rattle.ref_machine.proofs.Turning.{started}

@@ -1,8 +1,0 @@
-use Rattle.c_parser_refusals.proofs.UnitFails.{none_spelled, none_within}
-use Rattle.c_parser_refusals.proofs.laws.no_unit_is_spelled_where_units_fail.Goals as goal
-
-pub returns : goal.returns
-returns g = record {
-  any_depth = none_spelled;
-  limited = none_within;
-}

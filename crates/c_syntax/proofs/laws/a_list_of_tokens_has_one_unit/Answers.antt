@@ -1,6 +1,0 @@
-use Rattle.std.proofs.Common.{refl}
-use Rattle.c_syntax.proofs.OneUnit.{same_items}
-use Rattle.c_syntax.proofs.laws.a_list_of_tokens_has_one_unit.Goals as goal
-
-pub returns : goal.returns
-returns c d x one other tokens r v = (same_items r v refl refl).0

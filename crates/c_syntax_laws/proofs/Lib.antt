@@ -1,4 +1,0 @@
-pub mod Read
-pub mod ReadBack
-pub mod Tokens
-pub mod Written

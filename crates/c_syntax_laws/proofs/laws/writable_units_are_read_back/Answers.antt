@@ -1,5 +1,0 @@
-use Rattle.c_syntax_laws.proofs.ReadBack.{writable_read_back}
-use Rattle.c_syntax_laws.proofs.laws.writable_units_are_read_back.Goals as goal
-
-pub returns : goal.returns
-returns c = writable_read_back

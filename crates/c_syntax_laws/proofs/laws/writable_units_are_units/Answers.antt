@@ -1,5 +1,0 @@
-use Rattle.c_syntax_laws.proofs.Tokens.{writable_are_units}
-use Rattle.c_syntax_laws.proofs.laws.writable_units_are_units.Goals as goal
-
-pub returns : goal.returns
-returns c = writable_are_units

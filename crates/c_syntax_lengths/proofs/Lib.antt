@@ -1,4 +1,0 @@
-pub mod Counting
-pub mod Limits
-pub mod Rows
-pub mod TokenLengths

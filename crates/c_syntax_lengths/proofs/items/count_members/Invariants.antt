@@ -1,9 +1,0 @@
-use Rattle.std.proofs.Common.{drop}
-use Rattle.c_syntax.specs.UnitView.{members_of}
-use Rattle.c_syntax.specs.Print.{members_kinds}
-use Rattle.c_syntax_lengths.specs.Counted.{Leaves}
-use Rattle.c_syntax_lengths.proofs.items.count_members.Given as goal
-
-abbrev pub invariant-loop-member : goal.invariant-loop-member
-invariant-loop-member l =
-    Leaves l.fn.total (members_kinds (members_of l.members)) l.total (members_kinds (members_of (drop l.member-index l.members)))

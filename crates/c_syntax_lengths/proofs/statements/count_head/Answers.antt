@@ -1,5 +1,0 @@
-use Rattle.c_syntax_lengths.proofs.Counting.{and_then}
-use Rattle.c_syntax_lengths.proofs.statements.count_head.Goals as goal
-
-pub returns : goal.returns
-returns c = and_then (and_then (and_then c.count_keyword-total.ensures c.count_punctuator-total.ensures) c.count_expr-total.ensures) c.count_punctuator.ensures

@@ -1,5 +1,0 @@
-use Rattle.c_syntax_lengths.proofs.Counting.{and_then}
-use Rattle.c_syntax_lengths.proofs.statements.count_label.Goals as goal
-
-pub returns-in-Default : goal.returns-in-Default
-returns-in-Default c = rw c.in-Default.is (and_then c.count_keyword-total-in-Default.ensures c.count_punctuator-in-Default.ensures)

@@ -1,6 +1,0 @@
-use Rattle.std.proofs.Common.{drop}
-use Rattle.c_syntax_lengths.proofs.TokenLengths.{IsLeft}
-use Rattle.c_syntax_lengths.proofs.tokens.count_elements.Given as goal
-
-abbrev pub invariant-loop-byte : goal.invariant-loop-byte
-invariant-loop-byte l = IsLeft l.fn.total l.bytes l.total (drop l.byte-index l.bytes) l.quote

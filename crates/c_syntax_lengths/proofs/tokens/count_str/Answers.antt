@@ -1,7 +1,0 @@
-use Rattle.c_lexer.specs.declared.token.TokenKind.TheVariants.{Str}
-use Rattle.c_syntax_lengths.proofs.Counting.{token_counted, rises_then}
-use Rattle.c_syntax_lengths.proofs.TokenLengths.{str_length}
-use Rattle.c_syntax_lengths.proofs.tokens.count_str.Goals as goal
-
-pub returns : goal.returns
-returns c = token_counted _ _ _ (Str c.args.bytes.now) (str_length c.args.bytes.now) (rises_then _ _ _ _ _ c.count_elements-total.ensures c.add.ensures)

@@ -1,0 +1,139 @@
+-- Where the suffixes of an operand fail (C99 6.5.2).
+use Rattle.std.proofs.Common.{◌≡◌, ◌≤◌, suc, List, ◌∷◌, refl, sym, ap, ◌∙◌, arith, ℕ}
+use Rattle.c_lexer.specs.declared.token.Token.{Token}
+use Rattle.c_lexer.specs.declared.punctuator.TheConstants.{LEFT_PARENTHESIS, RIGHT_PARENTHESIS}
+use Rattle.c_syntax.specs.Tree.{Ident, Access, Expr, call, member, postfix, index}
+use Rattle.c_syntax.specs.Tokens.{Is}
+use Rattle.c_syntax.specs.Grammar.{primary_level, postfix_level, Reads, with_suffixes, Suffixes, no_suffix, an_index, an_empty_call, a_call, a_member, a_postfix}
+use Rattle.c_syntax.specs.Limits.{height}
+use Rattle.c_syntax_printing.specs.Ranks.{rank, Stops}
+use Rattle.c_syntax_printing.specs.Twins.{On}
+use Rattle.c_syntax_printing.proofs.Twins.{glue}
+use Rattle.c_syntax_printing.proofs.Ranks.{ranked, heads, apart, one_ident, ranked_postfix, ranked_access, one_postfix, one_access, postfix_apart, access_apart, step_apart}
+use Rattle.c_syntax_printing.proofs.Ends.{started}
+use Rattle.c_syntax_printing.proofs.Begins.{list_begins}
+use Rattle.c_syntax_printing.proofs.FrameGrammar.{reads_on, suffixes_on}
+use Rattle.c_syntax_printing.proofs.OneOperand.{suffix_stops}
+use Rattle.c_syntax_printing.proofs.One.{same, only_list}
+use Rattle.c_syntax_printing.specs.Fails.{Meets, Fails, Then, then, Or, first, second, NotAt}
+use Rattle.c_syntax_printing.specs.Phrases.{Bound, within, inner, AnExpr, Punctuator}
+use Rattle.c_syntax_printing.specs.Operands.{SomeExprs, SomeSuffixes, SomeArguments, Postfixed}
+use Rattle.c_syntax_printing.proofs.Combine.{fails_here, fails_not_or, missing, fails_under_begun, fails_beside, fails_past, twin_alike, Begins}
+use Rattle.c_syntax_printing.proofs.Fixed.{rank_alike, stops_alike}
+use Rattle.c_syntax_printing.proofs.ExprForms.{suffixes_rise, call_form}
+use Rattle.c_syntax_printing.proofs.PrefixFails.{fits_low}
+use Rattle.c_syntax_printing.proofs.DeclaratorFails.{place_alike}
+
+pub rooted : {x at it : ℕ} {a b f : Expr} {i j k : List Token} → at ≡ it → a ≡ b → i ≡ j → Suffixes x it b f j k → Suffixes x at a f i k
+rooted o p q r = rw (o, p, q) r
+
+same_member : {at : ℕ} {a : Expr} {b y : Access} {n p : Ident} → b ≡ y → n ≡ p → member at b a n ≡ member at y a p
+same_member e f = cc
+
+-- the whole goes on from where a part of the suffixes ends
+suffixes_pass : {d x at : ℕ} {a e f : Expr} {i j k : List Token} → Suffixes d at a e i j → Suffixes x at a f i k → Stops postfix_level k → Suffixes x at e f j k
+suffixes_pass no_suffix w z = w
+suffixes_pass (an_index o r c v) no_suffix z = absurd (omega (arith, ranked o))
+suffixes_pass {at = at} {a = a} (an_index o r c v) (an_index q s p w) z =
+    let u = same r s (omega (arith, ranked c)) (omega (arith, ranked p)) in suffixes_pass v (rooted refl (ap (λ b. index at a b) u.0) (heads u.1).1 w) z
+suffixes_pass (an_index o r c v) (an_empty_call q p w) z = absurd (omega (arith, apart o q))
+suffixes_pass (an_index o r c v) (a_call q s p w) z = absurd (omega (arith, apart o q))
+suffixes_pass (an_index o r c v) (a_member {access = b} q n w) z = absurd (omega (arith, (access_apart b q o).0))
+suffixes_pass (an_index o r c v) (a_postfix {p = p} q w) z = absurd (omega (arith, (postfix_apart p q o).0))
+suffixes_pass (an_empty_call o c v) no_suffix z = absurd (omega (arith, ranked o))
+suffixes_pass (an_empty_call o c v) (an_index q s p w) z = absurd (omega (arith, apart o q))
+suffixes_pass (an_empty_call o c v) (an_empty_call q p w) z = suffixes_pass v w z
+suffixes_pass (an_empty_call o c v) (a_call q s p w) z = absurd (omega (arith, (list_begins s).0, started c))
+suffixes_pass (an_empty_call o c v) (a_member {access = b} q n w) z = absurd (omega (arith, (access_apart b q o).0))
+suffixes_pass (an_empty_call o c v) (a_postfix {p = p} q w) z = absurd (omega (arith, (postfix_apart p q o).0))
+suffixes_pass (a_call o r c v) no_suffix z = absurd (omega (arith, ranked o))
+suffixes_pass (a_call o r c v) (an_index q s p w) z = absurd (omega (arith, apart o q))
+suffixes_pass (a_call o r c v) (an_empty_call q p w) z = absurd (omega (arith, (list_begins r).0, started p))
+suffixes_pass {at = at} {a = a} (a_call o r c v) (a_call q s p w) z =
+    let u = (only_list r (omega (arith, ranked c))).is _ _ _ s (omega (arith, ranked p)) in suffixes_pass v (rooted refl (ap (λ b. call at a b) u.0) (heads u.1).1 w) z
+suffixes_pass (a_call o r c v) (a_member {access = b} q n w) z = absurd (omega (arith, (access_apart b q o).0))
+suffixes_pass (a_call o r c v) (a_postfix {p = p} q w) z = absurd (omega (arith, (postfix_apart p q o).0))
+suffixes_pass (a_member {access = y} o m v) no_suffix z = absurd (omega (arith, ranked_access _ y o))
+suffixes_pass (a_member {access = y} o m v) (an_index q s p w) z = absurd (omega (arith, (access_apart y o q).0))
+suffixes_pass (a_member {access = y} o m v) (an_empty_call q p w) z = absurd (omega (arith, (access_apart y o q).0))
+suffixes_pass (a_member {access = y} o m v) (a_call q s p w) z = absurd (omega (arith, (access_apart y o q).0))
+suffixes_pass (a_member {access = y} o m v) (a_member {access = b} q n w) z = suffixes_pass v (rooted refl (same_member (one_access _ y b o q) (one_ident m n)) refl w) z
+suffixes_pass (a_member {access = y} o m v) (a_postfix {p = p} q w) z = absurd (step_apart _ p y q o)
+suffixes_pass (a_postfix {p = y} o v) no_suffix z = absurd (omega (arith, ranked_postfix _ y o))
+suffixes_pass (a_postfix {p = y} o v) (an_index q s p w) z = absurd (omega (arith, (postfix_apart y o q).0))
+suffixes_pass (a_postfix {p = y} o v) (an_empty_call q p w) z = absurd (omega (arith, (postfix_apart y o q).0))
+suffixes_pass (a_postfix {p = y} o v) (a_call q s p w) z = absurd (omega (arith, (postfix_apart y o q).0))
+suffixes_pass (a_postfix {p = y} o v) (a_member {access = b} q n w) z = absurd (step_apart _ y b o q)
+suffixes_pass {at = at} {a = a} (a_postfix {p = y} o v) (a_postfix {p = p} q w) z = suffixes_pass v (rooted refl (ap (λ p. postfix at p a) (one_postfix _ y p o q)) refl w) z
+
+postfixed_on : {d : ℕ} {e : Expr} {i j : List Token} → Postfixed d e i j → (k : List Token) → Meets j k → On (Postfixed d e) i j k
+postfixed_on a k m =
+    let x = suffixes_on a.suffixes k in
+    let y = reads_on a.reads x.tokens in
+    let w = glue x.twin y.twin in
+    record {
+      tokens = y.tokens;
+      twin = w;
+      reads = record {
+        at = a.at;
+        operand = a.operand;
+        after = x.tokens;
+        begins = a.begins ∙ place_alike (twin_alike w m);
+        reads = y.reads;
+        stops = stops_alike primary_level (twin_alike x.twin m) a.stops;
+        suffixes = x.reads;
+      };
+    }
+
+postfixed_passes : {d x : ℕ} {e f : Expr} {i j k : List Token} → Postfixed d e i j → Reads x postfix_level f i k → Stops postfix_level k → (at : ℕ) × Suffixes x at e f j k
+postfixed_passes a (with_suffixes p r w) z = let u = same a.reads r a.stops (suffix_stops w z) in (a.at, suffixes_pass a.suffixes (rooted (a.begins ∙ sym p) u.0 u.1 w) z)
+
+-- what follows them fails
+pub postfixed_fails : {b : Bound} {d : ℕ} {e : Expr} {i j r : List Token} → Postfixed d e i j → Fails (SomeSuffixes b) j r → Fails (AnExpr b postfix_level) i r
+postfixed_fails {b} {d} {e} a f =
+    fails_past {R = Postfixed d e} {C = SomeSuffixes b} (λ k m. postfixed_on a k m)
+    (λ h k l m v y. let w = postfixed_passes v y.reads y.stops in record { rest = l; reads = record { depth = y.depth; at = w.0; operand = _; tree = y.tree; reads = w.1; stops = y.stops; fits = y.fits } })
+    f
+
+no_suffix_at : {d at : ℕ} {a e : Expr} {i j : List Token} → rank i ≡ 0 → Suffixes d at a e i j → Stops postfix_level j → ⊥
+no_suffix_at q no_suffix z = omega (arith, q)
+no_suffix_at q (an_index o r c v) z = omega (arith, ranked o)
+no_suffix_at q (an_empty_call o c v) z = omega (arith, ranked o)
+no_suffix_at q (a_call o r c v) z = omega (arith, ranked o)
+no_suffix_at q (a_member {access = b} o n v) z = omega (arith, ranked_access _ b o)
+no_suffix_at q (a_postfix {p = p} o v) z = omega (arith, ranked_postfix _ p o)
+
+-- a string follows them
+pub string_after_suffixes : {b : Bound} {d : ℕ} {e : Expr} {i j : List Token} → Postfixed d e i j → rank j ≡ 0 → Fails (AnExpr b postfix_level) i j
+string_after_suffixes a q = postfixed_fails a (fails_here (λ s m k y. no_suffix_at (sym (rank_alike m) ∙ q) y.reads y.stops))
+
+suffix_rises : {d at : ℕ} {a e : Expr} {i j : List Token} → rank i ≡ 1 → Suffixes d at a e i j → Stops postfix_level j → suc (height a) ≤ height e
+suffix_rises q no_suffix z = absurd (omega (arith, q))
+suffix_rises q (an_index o r c v) z = omega (arith, suffixes_rise v)
+suffix_rises q (an_empty_call o c v) z = omega (arith, suffixes_rise v)
+suffix_rises q (a_call o r c v) z = omega (arith, suffixes_rise v)
+suffix_rises q (a_member o n v) z = omega (arith, suffixes_rise v)
+suffix_rises q (a_postfix o v) z = omega (arith, suffixes_rise v)
+
+-- what has them is as high as nodes may be
+pub postfixed_too_high : {p n d : ℕ} {e : Expr} {i j : List Token} → Postfixed d e i j → rank j ≡ 1 → n ≤ height e → Fails (AnExpr (within p n) postfix_level) i j
+postfixed_too_high {p} {n} {d} {e} a q g =
+    fails_beside {R = Postfixed d e} (λ k m. postfixed_on a k m)
+    (λ h k l m v y. let w = postfixed_passes v y.reads y.stops in omega (arith, g, (fits_low y.fits).1, suffix_rises (sym (rank_alike m) ∙ q) w.1 y.stops))
+
+-- the arguments of a call
+
+-- where no parenthesis ends them
+pub arguments_fail : {b : Bound} {i r : List Token} → NotAt (Is RIGHT_PARENTHESIS) i → Fails (Then (SomeExprs b) (Punctuator RIGHT_PARENTHESIS)) i r → Fails (SomeArguments b) i r
+arguments_fail n f = fails_not_or (missing _ n) f
+
+call_begins : {b : Bound} {t : Token} {i j : List Token} → Is LEFT_PARENTHESIS t → SomeSuffixes b (t ∷ i) j → Begins (SomeArguments (inner b)) i
+call_begins {b} h a = parts (call_form b h a)
+  where
+    parts : {b c : Bound} {i j : List Token} → Or (Then (Punctuator RIGHT_PARENTHESIS) (SomeSuffixes b)) (Then (SomeExprs c) (Then (Punctuator RIGHT_PARENTHESIS) (SomeSuffixes b))) i j → Begins (SomeArguments c) i
+    parts (first (then a w)) = record { rest = _; reads = first a }
+    parts (second (then a (then c w))) = record { rest = _; reads = second (then a c) }
+
+-- a call whose arguments fail
+pub call_fails : {b : Bound} {t : Token} {i r : List Token} → Is LEFT_PARENTHESIS t → Fails (SomeArguments (inner b)) i r → Fails (SomeSuffixes b) (t ∷ i) r
+call_fails {b} h f = fails_under_begun (λ k j a. call_begins h a) f

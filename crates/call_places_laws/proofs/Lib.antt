@@ -1,2 +1,0 @@
-mod Callers
-mod Counted

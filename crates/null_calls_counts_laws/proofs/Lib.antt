@@ -1,6 +1,0 @@
-pub mod Alike
-pub mod ExpressionCounts
-pub mod StatementCounts
-pub mod ExpressionHeights
-pub mod StatementHeights
-pub mod StatementTags

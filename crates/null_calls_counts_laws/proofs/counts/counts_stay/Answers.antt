@@ -1,5 +1,0 @@
-use Rattle.null_calls_counts_laws.proofs.ExpressionCounts.{counts_stay}
-use Rattle.null_calls_counts_laws.proofs.counts.counts_stay.Goals as goal
-
-pub returns : goal.returns
-returns c = counts_stay

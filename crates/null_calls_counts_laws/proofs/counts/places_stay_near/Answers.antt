@@ -1,5 +1,0 @@
-use Rattle.null_calls_counts_laws.proofs.ExpressionCounts.{places_near}
-use Rattle.null_calls_counts_laws.proofs.counts.places_stay_near.Goals as goal
-
-pub returns : goal.returns
-returns c = places_near

@@ -1,5 +1,0 @@
-use Rattle.null_calls_counts_laws.proofs.StatementCounts.{statements_stay}
-use Rattle.null_calls_counts_laws.proofs.counts.statements_stay.Goals as goal
-
-pub returns : goal.returns
-returns c = statements_stay

@@ -1,5 +1,0 @@
-use Rattle.null_calls_counts_laws.proofs.StatementHeights.{blocks_low}
-use Rattle.null_calls_counts_laws.proofs.heights.blocks_stay_low.Goals as goal
-
-pub returns : goal.returns
-returns c = blocks_low

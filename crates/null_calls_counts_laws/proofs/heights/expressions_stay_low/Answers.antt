@@ -1,5 +1,0 @@
-use Rattle.null_calls_counts_laws.proofs.ExpressionHeights.{expressions_low}
-use Rattle.null_calls_counts_laws.proofs.heights.expressions_stay_low.Goals as goal
-
-pub returns : goal.returns
-returns c = expressions_low

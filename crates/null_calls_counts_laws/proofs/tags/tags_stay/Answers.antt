@@ -1,5 +1,0 @@
-use Rattle.null_calls_counts_laws.proofs.StatementTags.{tags_stay as tags_remain}
-use Rattle.null_calls_counts_laws.proofs.tags.tags_stay.Goals as goal
-
-pub returns : goal.returns
-returns c = tags_remain

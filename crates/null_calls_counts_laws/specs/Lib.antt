@@ -1,4 +1,0 @@
-pub mod Counts
-pub mod Heights
-pub mod Statements
-pub mod Tags

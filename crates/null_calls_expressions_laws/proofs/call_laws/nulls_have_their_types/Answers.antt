@@ -1,5 +1,0 @@
-use Rattle.null_calls_expressions_laws.proofs.TreeTypes.{nulls_have_their_types}
-use Rattle.null_calls_expressions_laws.proofs.call_laws.nulls_have_their_types.Goals as goal
-
-pub returns : goal.returns
-returns c = nulls_have_their_types

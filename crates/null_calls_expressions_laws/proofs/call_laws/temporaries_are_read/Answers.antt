@@ -1,5 +1,0 @@
-use Rattle.null_calls_expressions_laws.proofs.AddedParts.{temporaries_are_read}
-use Rattle.null_calls_expressions_laws.proofs.call_laws.temporaries_are_read.Goals as goal
-
-pub returns : goal.returns
-returns c = temporaries_are_read

@@ -1,5 +1,0 @@
-use Rattle.null_calls_expressions_laws.proofs.PlainCalls.{unmarked_calls_go}
-use Rattle.null_calls_expressions_laws.proofs.call_laws.unmarked_calls_go.Goals as goal
-
-pub returns : goal.returns
-returns c = unmarked_calls_go

@@ -1,0 +1,5 @@
+use Rattle.null_calls_laws.proofs.StatementsGo.{statements_go as every_one_goes}
+use Rattle.null_calls_laws.proofs.statement_laws.statements_go.Goals as goal
+
+pub returns : goal.returns
+returns c = every_one_goes

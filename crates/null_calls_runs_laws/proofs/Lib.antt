@@ -1,9 +1,0 @@
-pub mod PieceLemmas
-pub mod Beside
-pub mod Bodies
-pub mod Calls
-pub mod Expressions
-pub mod NoAlarm
-pub mod Scalars
-pub mod Statements
-pub mod Worlds

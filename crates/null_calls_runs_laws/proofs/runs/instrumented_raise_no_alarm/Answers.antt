@@ -1,8 +1,0 @@
-use Rattle.null_calls_runs_laws.proofs.NoAlarm.{instrumented_runs_are_words, monitors_accept_instrumented_runs}
-use Rattle.null_calls_runs_laws.proofs.runs.instrumented_raise_no_alarm.Goals as goal
-
-pub returns : goal.returns
-returns c = record {
-  words = instrumented_runs_are_words;
-  monitors = monitors_accept_instrumented_runs;
-}

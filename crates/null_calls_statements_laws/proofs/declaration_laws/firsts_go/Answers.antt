@@ -1,5 +1,0 @@
-use Rattle.null_calls_statements_laws.proofs.Declarations.{firsts_go}
-use Rattle.null_calls_statements_laws.proofs.declaration_laws.firsts_go.Goals as goal
-
-pub returns : goal.returns
-returns c = firsts_go

@@ -1,5 +1,0 @@
-use Rattle.null_calls_statements_laws.proofs.Numbers.{numbers_stay}
-use Rattle.null_calls_statements_laws.proofs.declaration_laws.numbers_stay.Goals as goal
-
-pub returns : goal.returns
-returns c = numbers_stay

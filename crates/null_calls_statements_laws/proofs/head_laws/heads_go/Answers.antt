@@ -1,5 +1,0 @@
-use Rattle.null_calls_statements_laws.proofs.Heads.{all_heads_go}
-use Rattle.null_calls_statements_laws.proofs.head_laws.heads_go.Goals as goal
-
-pub returns : goal.returns
-returns c = all_heads_go

@@ -1,5 +1,0 @@
-use Rattle.null_calls_statements_laws.proofs.Scopes.{blocks_stand_beside}
-use Rattle.null_calls_statements_laws.proofs.initialiser_laws.blocks_stand_beside.Goals as goal
-
-pub returns : goal.returns
-returns c = blocks_stand_beside

@@ -1,5 +1,0 @@
-use Rattle.null_calls_statements_laws.proofs.Initialisers.{initialisers_go}
-use Rattle.null_calls_statements_laws.proofs.initialiser_laws.initialisers_go.Goals as goal
-
-pub returns : goal.returns
-returns c = initialisers_go

@@ -1,5 +1,0 @@
-use Rattle.null_calls_statements_laws.proofs.Reserved.{temporaries_stay}
-use Rattle.null_calls_statements_laws.proofs.initialiser_laws.temporaries_stay.Goals as goal
-
-pub returns : goal.returns
-returns c = temporaries_stay

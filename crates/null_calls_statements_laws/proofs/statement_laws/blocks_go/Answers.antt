@@ -1,5 +1,0 @@
-use Rattle.null_calls_statements_laws.proofs.Statements.{blocks_go as every_one_goes}
-use Rattle.null_calls_statements_laws.proofs.statement_laws.blocks_go.Goals as goal
-
-pub returns : goal.returns
-returns c = every_one_goes

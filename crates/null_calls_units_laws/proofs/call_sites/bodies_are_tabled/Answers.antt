@@ -1,5 +1,0 @@
-use Rattle.null_calls_units_laws.proofs.Statements.{bodies_are_tabled as every_one}
-use Rattle.null_calls_units_laws.proofs.call_sites.bodies_are_tabled.Goals as goal
-
-pub returns : goal.returns
-returns c = every_one

@@ -1,5 +1,0 @@
-use Rattle.null_calls_units_laws.proofs.Items.{other_items_go as every_one_goes}
-use Rattle.null_calls_units_laws.proofs.item_laws.other_items_go.Goals as goal
-
-pub returns : goal.returns
-returns c = every_one_goes

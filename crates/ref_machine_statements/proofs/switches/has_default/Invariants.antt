@@ -1,7 +1,0 @@
-use Rattle.std.proofs.Common.{◌≡◌, drop}
-use Rattle.std.specs.List.{list_any}
-use Rattle.c_meaning.specs.Meaning.{is_default}
-use Rattle.ref_machine_statements.proofs.switches.has_default.Given as goal
-
-abbrev pub invariant-loop-label : goal.invariant-loop-label
-invariant-loop-label l = list_any is_default (drop l.label-index l.labels) ≡ list_any is_default l.labels
