@@ -1,5 +1,6 @@
 -- The tokens that a unit is printed with are read back as the same unit, apart from places.
-use Rattle.std.proofs.Common.{◌≡◌, ℕ, ◌≤◌, List, [], ◌∷◌, refl, ap, ap₂, subst, arith}
+use Rattle.std.proofs.Common.{◌≡◌, ℕ, ◌≤◌, List, [], ◌∷◌, refl, ap, ap₂, subst}
+use Rattle.std.proofs.Math.Nat.{le_of_suc-le}
 use Rattle.c_lexer.specs.declared.token.Token.{Token}
 use Rattle.c_lexer.specs.declared.token.TokenKind.{TokenKind}
 use Rattle.c_lexer.specs.declared.token.TokenKind.TheVariants.{Name, Keyword, Punct}
@@ -12,13 +13,14 @@ use Rattle.c_syntax.specs.Specifiers.{Names, ReadsSpec}
 use Rattle.c_syntax.specs.Grammar.{Declares, HasName}
 use Rattle.c_syntax.specs.Statements.{ReadsBlockItems, ReadsDeclarators, last_declarator, next_declarator, ReadsMembers, last_member, next_member, ReadsEnumeratorValue, no_enumerator_value, an_enumerator_value, ReadsEnumerators, last_enumerator, next_enumerator, ReadsTag, no_name, a_tag}
 use Rattle.c_syntax.specs.Statements.{ReadsItem, a_struct, an_enum, a_tag_alone, an_item_declaration, a_definition, ReadsItems, last_item, next_item}
-use Rattle.c_syntax.specs.Limits.{height_of_maybe, height_of_declarators, height_of_members, height_of_enumerators, height_of_item, height_of_unit}
+use Rattle.c_syntax.specs.Limits.{height_of_declarator, height_of_stmt, height_of_maybe, height_of_declarators, height_of_members, height_of_enumerators, height_of_item, height_of_unit}
 use Rattle.c_syntax.specs.Same.{unplaced_maybe, unplaced_declarators, unplaced_members, unplaced_enumerators, unplaced_tag, unplaced_item, unplaced_unit, AreSame}
 use Rattle.c_syntax.specs.Print.{is_direct, spec_kinds, declarator_kinds, operand_kinds, stmt_kinds, block_items_kinds, next_declarators, declarators_kinds, members_kinds, enumerator_value_kinds, next_enumerators, enumerators_kinds, tag_kinds, item_kinds, unit_kinds}
 use Rattle.c_syntax_printing.specs.Fine.{IsFineMaybe}
 use Rattle.c_syntax_printing.specs.FineUnits.{AreFineDeclarators, AreFineMembers, AreSomeMembers, AreFineEnumerators, IsFineItem, AreFineItems, AreSomeItems}
 use Rattle.c_syntax_printing.proofs.FineUnitLemmas.{members_are_fine}
 use Rattle.c_syntax.proofs.BackTokens.{kinds, headed, mark, word, BackOf, ends_at, begins_at, two, ap_three, as_choosing, as_casting}
+use Rattle.c_syntax_printing.proofs.Depths.{both, deeper}
 use Rattle.c_syntax_printing.proofs.BackParts.{back_name, back_storage, back_spec, has_name, declares_of}
 use Rattle.c_syntax_printing.proofs.BackExpressions.{back_declarator}
 use Rattle.c_syntax_printing.proofs.BackDeclarations.{operand_of, back_decl}
@@ -27,9 +29,10 @@ use Rattle.c_syntax_printing.proofs.BackStatements.{back_block_items}
 back_declarators : (es : Declarators) → AreFineDeclarators es → (d : ℕ) → height_of_declarators es ≤ d → (e : Declarator) (i after : List Token) (k : List TokenKind) → Declares d e i after → HasName e → kinds after ≡ next_declarators es k → BackOf (λ (xs : Declarators). ReadsDeclarators d (more_declarators e xs)) unplaced_declarators es i k
 back_declarators no_declarators f d v e i after k r h q = record { tree = no_declarators; after = after; reads = last_declarator r h; same = refl; left = q }
 back_declarators (more_declarators e' es) f d v e i after k r h q =
+    let low = both (height_of_declarator e') (height_of_declarators es) v in
     let c = headed (Punct p.COMMA) after (declarator_kinds e' (next_declarators es k)) q in
-    let a = back_declarator e' f.0 d (omega arith) c.rest (next_declarators es k) c.left in
-    let z = back_declarators es f.2 d (omega arith) a.tree c.rest a.after k (declares_of (is_direct e') a.reads) (has_name e' a.tree a.same f.1) a.left in
+    let a = back_declarator e' f.0 d (deeper (height_of_declarator e') low.0) c.rest (next_declarators es k) c.left in
+    let z = back_declarators es f.2 d low.1 a.tree c.rest a.after k (declares_of (is_direct e') a.reads) (has_name e' a.tree a.same f.1) a.left in
     record { tree = more_declarators a.tree z.tree; after = z.after; reads = next_declarator (ends_at (Declares d e) c.is r) h (mark c) z.reads; same = ap₂ more_declarators a.same z.same; left = z.left }
 
 -- members, or none
@@ -45,12 +48,14 @@ back_members : (ms : Members) → AreFineMembers ms → (d : ℕ) → height_of_
 back_members no_members f d v ts k q = record { tree = no_members; after = ts; reads = refl; same = refl; left = q }
 back_members (more_members at s no_declarators ms) f d v ts k q = absurd f.0
 back_members (more_members at s (more_declarators e es) ms) f d v ts k q =
+    let low = both (height_of_declarators (more_declarators e es)) (height_of_members ms) v in
+    let lower = both (height_of_declarator e) (height_of_declarators es) low.0 in
     let k2 : List TokenKind = Punct p.SEMICOLON ∷ members_kinds ms k in
     let b = back_spec s ts (declarators_kinds (more_declarators e es) k2) q in
-    let a = back_declarator e f.0.0 d (omega arith) b.after (next_declarators es k2) b.left in
-    let x = back_declarators es f.0.2 d (omega arith) a.tree b.after a.after k2 (declares_of (is_direct e) a.reads) (has_name e a.tree a.same f.0.1) a.left in
+    let a = back_declarator e f.0.0 d (deeper (height_of_declarator e) lower.0) b.after (next_declarators es k2) b.left in
+    let x = back_declarators es f.0.2 d lower.1 a.tree b.after a.after k2 (declares_of (is_direct e) a.reads) (has_name e a.tree a.same f.0.1) a.left in
     let c = headed (Punct p.SEMICOLON) x.after (members_kinds ms k) x.left in
-    let z = back_members ms f.1 d (omega arith) c.rest k c.left in
+    let z = back_members ms f.1 d low.1 c.rest k c.left in
     record {
       tree = more_members (place ts) b.tree (more_declarators a.tree x.tree) z.tree;
       after = z.after;
@@ -74,10 +79,11 @@ back_enumerator_value (there e) f d v ts k q =
 back_enumerators : (es : Enumerators) → AreFineEnumerators es → (d : ℕ) → height_of_enumerators es ≤ d → (x : Ident) (e : Maybe) (t : Token) (i after : List Token) (k : List TokenKind) → Names x t → ReadsEnumeratorValue d e i after → kinds after ≡ next_enumerators es k → BackOf (λ (fs : Enumerators). ReadsEnumerators d (more_enumerators x e fs)) unplaced_enumerators es (t ∷ i) k
 back_enumerators no_enumerators f d v x e t i after k n r q = record { tree = no_enumerators; after = after; reads = last_enumerator n r; same = refl; left = q }
 back_enumerators (more_enumerators x' e' es) f d v x e t i after k n r q =
+    let low = both (height_of_maybe e') (height_of_enumerators es) v in
     let c = headed (Punct p.COMMA) after (Name x'.name ∷ enumerator_value_kinds e' (next_enumerators es k)) q in
     let g = back_name x' c.rest (enumerator_value_kinds e' (next_enumerators es k)) c.left in
-    let a = back_enumerator_value e' f.0 d (omega arith) g.heads.rest (next_enumerators es k) g.heads.left in
-    let z = back_enumerators es f.1 d (omega arith) g.ident a.tree g.heads.token g.heads.rest a.after k g.names a.reads a.left in
+    let a = back_enumerator_value e' f.0 d low.0 g.heads.rest (next_enumerators es k) g.heads.left in
+    let z = back_enumerators es f.1 d low.1 g.ident a.tree g.heads.token g.heads.rest a.after k g.names a.reads a.left in
     record {
       tree = more_enumerators g.ident a.tree z.tree;
       after = z.after;
@@ -114,13 +120,14 @@ back_item (struct_item at x ms) f d v ts k q =
     }
 back_item (enum_item at g no_enumerators) f d v ts k q = absurd f
 back_item (enum_item at g (more_enumerators x e es)) f d v ts k q =
+    let low = both (height_of_maybe e) (height_of_enumerators es) v in
     let k2 : List TokenKind = Punct p.RIGHT_BRACE ∷ Punct p.SEMICOLON ∷ k in
     let h = headed (Keyword w.ENUM) ts (tag_kinds g (Punct p.LEFT_BRACE ∷ enumerators_kinds (more_enumerators x e es) k2)) q in
     let b = back_tag g h.rest (Punct p.LEFT_BRACE ∷ enumerators_kinds (more_enumerators x e es) k2) h.left in
     let l = headed (Punct p.LEFT_BRACE) b.after (enumerators_kinds (more_enumerators x e es) k2) b.left in
     let n = back_name x l.rest (enumerator_value_kinds e (next_enumerators es k2)) l.left in
-    let a = back_enumerator_value e f.0 d (omega arith) n.heads.rest (next_enumerators es k2) n.heads.left in
-    let z = back_enumerators es f.1 d (omega arith) n.ident a.tree n.heads.token n.heads.rest a.after k2 n.names a.reads a.left in
+    let a = back_enumerator_value e f.0 d low.0 n.heads.rest (next_enumerators es k2) n.heads.left in
+    let z = back_enumerators es f.1 d low.1 n.ident a.tree n.heads.token n.heads.rest a.after k2 n.names a.reads a.left in
     let r = headed (Punct p.RIGHT_BRACE) z.after (Punct p.SEMICOLON ∷ k) z.left in
     let u = headed (Punct p.SEMICOLON) r.rest k r.left in
     let trees : Enumerators = more_enumerators n.ident a.tree z.tree in
@@ -141,11 +148,12 @@ back_item (tag_item at x) f d v ts k q =
 back_item (decl_item at x) f d v ts k q =
     let y = back_decl x f d v ts k q in record { tree = decl_item (place ts) y.tree; after = y.after; reads = an_item_declaration refl y.reads; same = ap (decl_item 0) y.same; left = y.left }
 back_item (function_item at st s e (block at' is)) f d v ts k q =
+    let low = both (height_of_declarator e) (height_of_stmt (block at' is)) v in
     let g = back_storage st ts (spec_kinds s (declarator_kinds e (stmt_kinds (block at' is) k))) q in
     let b = back_spec s g.after (declarator_kinds e (stmt_kinds (block at' is) k)) g.left in
-    let y = back_declarator e f.0 d (omega arith) b.after (stmt_kinds (block at' is) k) b.left in
+    let y = back_declarator e f.0 d (deeper (height_of_declarator e) low.0) b.after (stmt_kinds (block at' is) k) b.left in
     let h = headed (Punct p.LEFT_BRACE) y.after (block_items_kinds is (Punct p.RIGHT_BRACE ∷ k)) y.left in
-    let x = back_block_items is f.2 d (omega arith) h.rest (Punct p.RIGHT_BRACE ∷ k) h.left in
+    let x = back_block_items is f.2 d (le_of_suc-le low.1) h.rest (Punct p.RIGHT_BRACE ∷ k) h.left in
     let c = headed (Punct p.RIGHT_BRACE) x.after k x.left in
     record {
       tree = function_item (place ts) st b.tree y.tree (block h.token.from x.tree);
@@ -168,8 +176,9 @@ item_before (more_items b rest) r f = next_item r f
 back_items : (u : Items) → AreFineItems u → (d : ℕ) → height_of_unit u ≤ d → (ts : List Token) (k : List TokenKind) → kinds ts ≡ unit_kinds u k → BackOf (ItemsOrNone d) unplaced_unit u ts k
 back_items no_items f d v ts k q = record { tree = no_items; after = ts; reads = refl; same = refl; left = q }
 back_items (more_items a u) f d v ts k q =
-    let x = back_item a f.0 d (omega arith) ts (unit_kinds u k) q in
-    let z = back_items u f.1 d (omega arith) x.after k x.left in
+    let low = both (height_of_item a) (height_of_unit u) v in
+    let x = back_item a f.0 d low.0 ts (unit_kinds u k) q in
+    let z = back_items u f.1 d low.1 x.after k x.left in
     record { tree = more_items x.tree z.tree; after = z.after; reads = item_before z.tree x.reads z.reads; same = ap₂ more_items x.same z.same; left = z.left }
 
 -- what is read back of a whole unit
@@ -185,8 +194,9 @@ no_kinds (t ∷ ts) q = absurd (cc)
 pub back_unit : (u : Items) → AreSomeItems u → (d : ℕ) → height_of_unit u ≤ d → (ts : List Token) → kinds ts ≡ unit_kinds u [] → BackUnit d u ts
 back_unit no_items f d v ts q = absurd f
 back_unit (more_items a u) f d v ts q =
-    let x = back_item a f.0 d (omega arith) ts (unit_kinds u []) q in
-    let z = back_items u f.1 d (omega arith) x.after [] x.left in
+    let low = both (height_of_item a) (height_of_unit u) v in
+    let x = back_item a f.0 d low.0 ts (unit_kinds u []) q in
+    let z = back_items u f.1 d low.1 x.after [] x.left in
     record {
       other = more_items x.tree z.tree;
       reads = ends_at (ReadsItems d (more_items x.tree z.tree)) (no_kinds z.after z.left) (item_before z.tree x.reads z.reads);

@@ -81,3 +81,6 @@ pub mod Counting
 pub mod Limits
 pub mod Rows
 pub mod TokenLengths
+pub mod Depths
+pub mod Lists
+pub mod PrintedOperands

@@ -1,9 +1,9 @@
 -- The tokens of lists of trees that a node holds.
-use Rattle.std.proofs.Common.{◌≡◌, ℕ, Bool, false, List, ◌∷◌, Option, Vec, Global, length, drop, ◌≤◌, ap, sym, subst, ◌∙◌}
+use Rattle.std.proofs.Common.{◌≡◌, ℕ, Bool, false, List, ◌∷◌, Option, Some, None, Vec, Global, length, drop, ◌≤◌, refl, ap, sym, subst, ◌∙◌}
 use Rattle.std.specs.Prelude.{Box, ◌==◌}
 use Rattle.c_lexer.specs.declared.token.TokenKind.TheVariants.{Punct}
 use Rattle.c_lexer.specs.declared.punctuator.TheConstants.{LEFT_PARENTHESIS, RIGHT_PARENTHESIS, LEFT_BRACE, RIGHT_BRACE}
-use Rattle.c_lexer.specs.declared.keyword.TheConstants.{SWITCH}
+use Rattle.c_lexer.specs.declared.keyword.TheConstants.{IF, SWITCH}
 use Rattle.c_syntax.specs.declared.tree.Expr.{Expr as Tree}
 use Rattle.c_syntax.specs.declared.tree.Param.{Param as ParamTree}
 use Rattle.c_syntax.specs.declared.tree.Declarator.{Declarator as DeclaratorTree}
@@ -13,13 +13,14 @@ use Rattle.c_syntax.specs.declared.tree.DeclaratorKind.TheVariants.{Function}
 use Rattle.c_syntax.specs.declared.tree.Init.{Init as InitTree}
 use Rattle.c_syntax.specs.declared.tree.InitKind.TheVariants.{List as listed}
 use Rattle.c_syntax.specs.declared.tree.BlockItem.{BlockItem}
-use Rattle.c_syntax.specs.declared.tree.StmtKind.TheVariants.{Block, Switch}
+use Rattle.c_syntax.specs.declared.tree.Stmt.{Stmt as StmtTree}
+use Rattle.c_syntax.specs.declared.tree.StmtKind.TheVariants.{Block, If, Switch}
 use Rattle.c_syntax.specs.declared.tree.Group.{Group}
 use Rattle.c_syntax.specs.View.{expr_at, expr_of, declarator_at, inner_declarator}
-use Rattle.c_syntax.specs.UnitView.{init_at, stmt_at}
+use Rattle.c_syntax.specs.UnitView.{init_at, stmt_at, stmt_of}
 use Rattle.c_syntax.specs.Print.{Kinds, params_kinds, list_kinds, expr_kinds, operand_kinds, declarator_kinds, init_kinds, inits_kinds, stmt_kinds, block_items_kinds, groups_kinds}
 use Rattle.c_syntax.specs.Writes.{exprs_of, params_of, left_params, head_params, declarator_behind, direct_kinds}
-use Rattle.c_syntax.specs.WritesUnit.{inits_of, block_items_of, groups_of, worded_kinds}
+use Rattle.c_syntax.specs.WritesUnit.{inits_of, block_items_of, groups_of, else_behind, else_kinds, worded_kinds}
 use Rattle.c_syntax_printing.specs.Counted.{Leaves, Counts}
 use Rattle.c_syntax_printing.proofs.Counting.{all_counted, counted_as}
 use Rattle.c_syntax.proofs.Rows.{inner_is, params_in, exprs_in, no_params_left, head_is_all}
@@ -67,3 +68,10 @@ pub switch_is :
     (at : ℕ) (e : Tree) (v : Vec Group Global) (xs : List Group) → xs ≡ v.items → (k : Kinds)
     → worded_kinds SWITCH (expr_of e) (Punct LEFT_BRACE ∷ groups_kinds (groups_of xs) (Punct RIGHT_BRACE ∷ k)) ≡ stmt_kinds (stmt_at at (Switch e v)) k
 switch_is at e v xs is k = ap (λ x. worded_kinds SWITCH (expr_of e) (Punct LEFT_BRACE ∷ groups_kinds x (Punct RIGHT_BRACE ∷ k))) (ap groups_of is ∙ sym (groups_in e v))
+
+-- an if is its head, its statement, and the else where one stands
+pub if_is :
+    (at : ℕ) (e : Tree) (s : Box StmtTree Global) (no : Option (Box StmtTree Global)) (k : Kinds)
+    → worded_kinds IF (expr_of e) (stmt_kinds (stmt_of s.value) (else_kinds (else_behind no) k)) ≡ stmt_kinds (stmt_at at (If e s no)) k
+if_is at e s None k = refl
+if_is at e s (Some b) k = refl

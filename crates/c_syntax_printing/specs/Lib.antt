@@ -28,3 +28,4 @@ pub mod FineUnits
 pub mod Laws
 pub mod Writable
 pub mod Counted
+pub mod PrintedOperands

@@ -1,7 +1,8 @@
 ghost use Rattle.std.specs.Prelude.{◌≡◌};
-ghost use Rattle.c_syntax.specs.View.{spec_of, expr_of, declarator_of};
+ghost use Rattle.c_syntax.specs.View.{spec_of, expr_of, type_name_of, declarator_of};
 ghost use Rattle.c_syntax.specs.Print.{expr_kinds, is_bare as is_bare_expr, operand_kinds, list_kinds, declarator_kinds, size_kinds, params_kinds, spec_kinds};
 ghost use Rattle.c_syntax_printing.specs.Counted.{Counts};
+ghost use Rattle.c_syntax_printing.specs.PrintedOperands.{before_kinds, after_kinds, enclosed_type_kinds};
 ghost use Rattle.c_syntax.specs.Writes.{exprs_of, params_of, declarator_in, declarator_behind, expr_behind, typed_kinds, direct_kinds};
 
 use crate::token_lengths::{
@@ -12,7 +13,7 @@ use c_lexer::punctuator::{
     AND, ARROW, ASTERISK, COLON, DECREMENT, DOT, INCREMENT, LEFT_BRACKET, LEFT_PARENTHESIS, OR,
     QUESTION, RIGHT_BRACKET, RIGHT_PARENTHESIS,
 };
-use c_syntax::{Declarator, DeclaratorKind, Expr, ExprKind, Param, Spec};
+use c_syntax::{Declarator, DeclaratorKind, Expr, ExprKind, Param, Spec, TypeName};
 
 // Counts the specifiers.
 pub fn count_spec(total: usize, spec: &Spec) -> usize
@@ -71,87 +72,58 @@ pub fn count_expr(total: usize, e: &Expr) -> usize
         ExprKind::Comma(es) => count_list(total, es),
         ExprKind::SizeofType(n) => {
             let total = count_keyword(total, SIZEOF);
-            let total = count_punctuator(total, LEFT_PARENTHESIS);
-            let total = count_typed(total, &n.spec, &n.declarator);
-            count_punctuator(total, RIGHT_PARENTHESIS)
+            count_type(total, n)
         }
         ExprKind::Cast(n, a) => {
-            let total = count_punctuator(total, LEFT_PARENTHESIS);
-            let total = count_typed(total, &n.spec, &n.declarator);
-            let total = count_punctuator(total, RIGHT_PARENTHESIS);
+            let total = count_type(total, n);
             count_operand(total, a)
         }
         ExprKind::Call(a, es) => {
-            let total = count_operand(total, a);
-            let total = count_punctuator(total, LEFT_PARENTHESIS);
+            let total = count_before(total, a, LEFT_PARENTHESIS);
             let total = count_list(total, es);
             count_punctuator(total, RIGHT_PARENTHESIS)
         }
         ExprKind::Member(a, x) => {
-            let total = count_operand(total, a);
-            let total = count_punctuator(total, DOT);
+            let total = count_before(total, a, DOT);
             count_name(total, x.name.as_slice())
         }
         ExprKind::Arrow(a, x) => {
-            let total = count_operand(total, a);
-            let total = count_punctuator(total, ARROW);
+            let total = count_before(total, a, ARROW);
             count_name(total, x.name.as_slice())
         }
-        ExprKind::PostInc(a) => {
-            let total = count_operand(total, a);
-            count_punctuator(total, INCREMENT)
-        }
-        ExprKind::PostDec(a) => {
-            let total = count_operand(total, a);
-            count_punctuator(total, DECREMENT)
-        }
-        ExprKind::PreInc(a) => {
-            let total = count_punctuator(total, INCREMENT);
-            count_operand(total, a)
-        }
-        ExprKind::PreDec(a) => {
-            let total = count_punctuator(total, DECREMENT);
-            count_operand(total, a)
-        }
+        ExprKind::PostInc(a) => count_before(total, a, INCREMENT),
+        ExprKind::PostDec(a) => count_before(total, a, DECREMENT),
+        ExprKind::PreInc(a) => count_after(total, INCREMENT, a),
+        ExprKind::PreDec(a) => count_after(total, DECREMENT, a),
         ExprKind::SizeofExpr(a) => {
             let total = count_keyword(total, SIZEOF);
             count_operand(total, a)
         }
-        ExprKind::Unary(operator, a) => {
-            let total = count_punctuator(total, *operator);
-            count_operand(total, a)
-        }
+        ExprKind::Unary(operator, a) => count_after(total, *operator, a),
         ExprKind::Index(a, b) => {
-            let total = count_operand(total, a);
-            let total = count_punctuator(total, LEFT_BRACKET);
+            let total = count_before(total, a, LEFT_BRACKET);
             let total = count_expr(total, b);
             count_punctuator(total, RIGHT_BRACKET)
         }
         ExprKind::And(a, b) => {
-            let total = count_operand(total, a);
-            let total = count_punctuator(total, AND);
+            let total = count_before(total, a, AND);
             count_operand(total, b)
         }
         ExprKind::Or(a, b) => {
-            let total = count_operand(total, a);
-            let total = count_punctuator(total, OR);
+            let total = count_before(total, a, OR);
             count_operand(total, b)
         }
         ExprKind::Binary(operator, a, b) => {
-            let total = count_operand(total, a);
-            let total = count_punctuator(total, *operator);
+            let total = count_before(total, a, *operator);
             count_operand(total, b)
         }
         ExprKind::Assign(operator, a, b) => {
-            let total = count_operand(total, a);
-            let total = count_punctuator(total, *operator);
+            let total = count_before(total, a, *operator);
             count_operand(total, b)
         }
         ExprKind::Cond(a, b, c) => {
-            let total = count_operand(total, a);
-            let total = count_punctuator(total, QUESTION);
-            let total = count_operand(total, b);
-            let total = count_punctuator(total, COLON);
+            let total = count_before(total, a, QUESTION);
+            let total = count_before(total, b, COLON);
             count_operand(total, c)
         }
     }
@@ -170,6 +142,24 @@ pub fn count_operand(total: usize, e: &Expr) -> usize
     count_punctuator(total, RIGHT_PARENTHESIS)
 }
 
+// Counts the operand and the punctuator after it.
+#[cycle(counted_tree)]
+fn count_before(total: usize, e: &Expr, number: u8) -> usize
+    ensures { Counts total (before_kinds number (expr_of e.now)) result }
+{
+    let total = count_operand(total, e);
+    count_punctuator(total, number)
+}
+
+// Counts the punctuator and the operand after it.
+#[cycle(counted_tree)]
+fn count_after(total: usize, number: u8, e: &Expr) -> usize
+    ensures { Counts total (after_kinds number (expr_of e.now)) result }
+{
+    let total = count_punctuator(total, number);
+    count_operand(total, e)
+}
+
 // Counts operands with commas between them.
 #[cycle(counted_tree)]
 fn count_list(mut total: usize, es: &[Expr]) -> usize
@@ -182,6 +172,16 @@ fn count_list(mut total: usize, es: &[Expr]) -> usize
         first = false;
     }
     total
+}
+
+// Counts the name of a type in parentheses.
+#[cycle(counted_tree)]
+fn count_type(total: usize, n: &TypeName) -> usize
+    ensures { Counts total (enclosed_type_kinds (type_name_of n.now)) result }
+{
+    let total = count_punctuator(total, LEFT_PARENTHESIS);
+    let total = count_typed(total, &n.spec, &n.declarator);
+    count_punctuator(total, RIGHT_PARENTHESIS)
 }
 
 // Counts specifiers, and the declarator after them where one stands.

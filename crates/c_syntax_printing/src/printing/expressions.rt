@@ -1,7 +1,8 @@
 ghost use Rattle.std.specs.Prelude.{◌≡◌, OnOk};
-ghost use Rattle.c_syntax.specs.View.{spec_of, expr_of, declarator_of};
+ghost use Rattle.c_syntax.specs.View.{spec_of, expr_of, type_name_of, declarator_of};
 ghost use Rattle.c_syntax.specs.Print.{expr_kinds, is_bare as is_bare_expr, operand_kinds, list_kinds, declarator_kinds, size_kinds, params_kinds, spec_kinds};
 ghost use Rattle.c_syntax.specs.Writes.{Writes, exprs_of, params_of, declarator_in, declarator_behind, expr_behind, typed_kinds, direct_kinds};
+ghost use Rattle.c_syntax_printing.specs.PrintedOperands.{before_kinds, after_kinds, enclosed_type_kinds};
 
 use crate::printing::tokens::{
     push_char, push_int, push_keyword, push_name, push_punctuator, push_separator, push_str,
@@ -12,7 +13,7 @@ use c_lexer::punctuator::{
     AND, ARROW, ASTERISK, COLON, DECREMENT, DOT, INCREMENT, LEFT_BRACKET, LEFT_PARENTHESIS, OR,
     QUESTION, RIGHT_BRACKET, RIGHT_PARENTHESIS,
 };
-use c_syntax::{Declarator, DeclaratorKind, Expr, ExprKind, Param, Spec};
+use c_syntax::{Declarator, DeclaratorKind, Expr, ExprKind, Param, Spec, TypeName};
 
 // Writes the specifiers.
 pub fn write_spec(out: &mut Vec<u8>, spec: &Spec) -> Result<(), OutOfMemory>
@@ -71,87 +72,58 @@ pub fn write_expr(out: &mut Vec<u8>, e: &Expr) -> Result<(), OutOfMemory>
         ExprKind::Comma(es) => write_list(out, es),
         ExprKind::SizeofType(n) => {
             push_keyword(out, SIZEOF)?;
-            push_punctuator(out, LEFT_PARENTHESIS)?;
-            write_typed(out, &n.spec, &n.declarator)?;
-            push_punctuator(out, RIGHT_PARENTHESIS)
+            write_type(out, n)
         }
         ExprKind::Cast(n, a) => {
-            push_punctuator(out, LEFT_PARENTHESIS)?;
-            write_typed(out, &n.spec, &n.declarator)?;
-            push_punctuator(out, RIGHT_PARENTHESIS)?;
+            write_type(out, n)?;
             write_operand(out, a)
         }
         ExprKind::Call(a, es) => {
-            write_operand(out, a)?;
-            push_punctuator(out, LEFT_PARENTHESIS)?;
+            write_before(out, a, LEFT_PARENTHESIS)?;
             write_list(out, es)?;
             push_punctuator(out, RIGHT_PARENTHESIS)
         }
         ExprKind::Member(a, x) => {
-            write_operand(out, a)?;
-            push_punctuator(out, DOT)?;
+            write_before(out, a, DOT)?;
             push_name(out, x.name.as_slice())
         }
         ExprKind::Arrow(a, x) => {
-            write_operand(out, a)?;
-            push_punctuator(out, ARROW)?;
+            write_before(out, a, ARROW)?;
             push_name(out, x.name.as_slice())
         }
-        ExprKind::PostInc(a) => {
-            write_operand(out, a)?;
-            push_punctuator(out, INCREMENT)
-        }
-        ExprKind::PostDec(a) => {
-            write_operand(out, a)?;
-            push_punctuator(out, DECREMENT)
-        }
-        ExprKind::PreInc(a) => {
-            push_punctuator(out, INCREMENT)?;
-            write_operand(out, a)
-        }
-        ExprKind::PreDec(a) => {
-            push_punctuator(out, DECREMENT)?;
-            write_operand(out, a)
-        }
+        ExprKind::PostInc(a) => write_before(out, a, INCREMENT),
+        ExprKind::PostDec(a) => write_before(out, a, DECREMENT),
+        ExprKind::PreInc(a) => write_after(out, INCREMENT, a),
+        ExprKind::PreDec(a) => write_after(out, DECREMENT, a),
         ExprKind::SizeofExpr(a) => {
             push_keyword(out, SIZEOF)?;
             write_operand(out, a)
         }
-        ExprKind::Unary(operator, a) => {
-            push_punctuator(out, *operator)?;
-            write_operand(out, a)
-        }
+        ExprKind::Unary(operator, a) => write_after(out, *operator, a),
         ExprKind::Index(a, b) => {
-            write_operand(out, a)?;
-            push_punctuator(out, LEFT_BRACKET)?;
+            write_before(out, a, LEFT_BRACKET)?;
             write_expr(out, b)?;
             push_punctuator(out, RIGHT_BRACKET)
         }
         ExprKind::And(a, b) => {
-            write_operand(out, a)?;
-            push_punctuator(out, AND)?;
+            write_before(out, a, AND)?;
             write_operand(out, b)
         }
         ExprKind::Or(a, b) => {
-            write_operand(out, a)?;
-            push_punctuator(out, OR)?;
+            write_before(out, a, OR)?;
             write_operand(out, b)
         }
         ExprKind::Binary(operator, a, b) => {
-            write_operand(out, a)?;
-            push_punctuator(out, *operator)?;
+            write_before(out, a, *operator)?;
             write_operand(out, b)
         }
         ExprKind::Assign(operator, a, b) => {
-            write_operand(out, a)?;
-            push_punctuator(out, *operator)?;
+            write_before(out, a, *operator)?;
             write_operand(out, b)
         }
         ExprKind::Cond(a, b, c) => {
-            write_operand(out, a)?;
-            push_punctuator(out, QUESTION)?;
-            write_operand(out, b)?;
-            push_punctuator(out, COLON)?;
+            write_before(out, a, QUESTION)?;
+            write_before(out, b, COLON)?;
             write_operand(out, c)
         }
     }
@@ -170,6 +142,24 @@ pub fn write_operand(out: &mut Vec<u8>, e: &Expr) -> Result<(), OutOfMemory>
     push_punctuator(out, RIGHT_PARENTHESIS)
 }
 
+// Writes the operand and the punctuator after it.
+#[cycle(printed_tree)]
+fn write_before(out: &mut Vec<u8>, e: &Expr, number: u8) -> Result<(), OutOfMemory>
+    ensures { OnOk result (Writes out.old.items out.new.items (before_kinds number (expr_of e.now))) }
+{
+    write_operand(out, e)?;
+    push_punctuator(out, number)
+}
+
+// Writes the punctuator and the operand after it.
+#[cycle(printed_tree)]
+fn write_after(out: &mut Vec<u8>, number: u8, e: &Expr) -> Result<(), OutOfMemory>
+    ensures { OnOk result (Writes out.old.items out.new.items (after_kinds number (expr_of e.now))) }
+{
+    push_punctuator(out, number)?;
+    write_operand(out, e)
+}
+
 // Writes operands with commas between them.
 #[cycle(printed_tree)]
 fn write_list(out: &mut Vec<u8>, es: &[Expr]) -> Result<(), OutOfMemory>
@@ -182,6 +172,16 @@ fn write_list(out: &mut Vec<u8>, es: &[Expr]) -> Result<(), OutOfMemory>
         first = false;
     }
     Ok(())
+}
+
+// Writes the name of a type in parentheses.
+#[cycle(printed_tree)]
+fn write_type(out: &mut Vec<u8>, n: &TypeName) -> Result<(), OutOfMemory>
+    ensures { OnOk result (Writes out.old.items out.new.items (enclosed_type_kinds (type_name_of n.now))) }
+{
+    push_punctuator(out, LEFT_PARENTHESIS)?;
+    write_typed(out, &n.spec, &n.declarator)?;
+    push_punctuator(out, RIGHT_PARENTHESIS)
 }
 
 // Writes specifiers, and the declarator after them where one stands.
