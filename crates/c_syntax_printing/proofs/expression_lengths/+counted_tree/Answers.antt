@@ -4,7 +4,7 @@ use Rattle.c_syntax.specs.Print.{expr_kinds, operand_kinds}
 use Rattle.c_syntax.proofs.Rows.{type_is}
 use Rattle.c_syntax_printing.specs.PrintedOperands.{before_kinds, after_kinds}
 use Rattle.c_syntax_printing.proofs.Counting.{and_then, name_is, counted_as, all_counted, one_counted}
-use Rattle.c_syntax_printing.proofs.Operands.{tree_counted}
+use Rattle.c_syntax_printing.proofs.PrintedOperands.{tree_counted}
 use Rattle.c_syntax_printing.proofs.Rows.{comma_is, call_is, function_is, params_counted}
 use Rattle.c_syntax.specs.View.{expr_of}
 use Rattle.c_syntax.specs.Writes.{exprs_of, left_kinds, separator}

@@ -5,7 +5,7 @@ use Rattle.c_syntax.specs.UnitView.{stmt_of, block_item_before, group_before, la
 use Rattle.c_syntax.specs.WritesUnit.{block_items_of, groups_of, stmts_of}
 use Rattle.c_syntax.proofs.UnitRows.{block_item_first, group_first, group_is}
 use Rattle.c_syntax_printing.proofs.Counting.{and_then, counted_as, of_same, one_counted, all_counted}
-use Rattle.c_syntax_printing.proofs.Operands.{stmt_counted}
+use Rattle.c_syntax_printing.proofs.PrintedOperands.{stmt_counted}
 use Rattle.c_syntax_printing.proofs.Rows.{block_is, switch_is, if_is}
 use Rattle.c_syntax_printing.proofs.statement_lengths.+counted_statement.Goals as goal
 

@@ -4,7 +4,7 @@ use Rattle.c_syntax.specs.Print.{expr_kinds, operand_kinds}
 use Rattle.c_syntax.proofs.Writing.{and_then, and_last, name_last, written_as, all_written, one_written}
 use Rattle.c_syntax.proofs.Rows.{comma_last, call_last, function_last, operand_last, type_is, params_written}
 use Rattle.c_syntax_printing.specs.PrintedOperands.{before_kinds, after_kinds}
-use Rattle.c_syntax_printing.proofs.Operands.{tree_written, tree_last}
+use Rattle.c_syntax_printing.proofs.PrintedOperands.{tree_written, tree_last}
 use Rattle.c_syntax.specs.View.{expr_of}
 use Rattle.c_syntax.specs.Writes.{exprs_of, left_kinds, separator}
 use Rattle.c_syntax_printing.proofs.Lists.{exprs_first, no_exprs_left}

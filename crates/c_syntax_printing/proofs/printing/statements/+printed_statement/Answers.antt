@@ -5,7 +5,7 @@ use Rattle.c_syntax.specs.UnitView.{stmt_of, block_item_before, group_before}
 use Rattle.c_syntax.specs.WritesUnit.{block_items_of, stmts_of, groups_of}
 use Rattle.c_syntax.proofs.Writing.{and_then, and_last, on_ok_as, one_written, all_written}
 use Rattle.c_syntax.proofs.UnitRows.{block_last, switch_last, group_last, block_item_first, group_first}
-use Rattle.c_syntax_printing.proofs.Operands.{stmt_written, stmt_last}
+use Rattle.c_syntax_printing.proofs.PrintedOperands.{stmt_written, stmt_last}
 use Rattle.c_syntax_printing.proofs.Rows.{if_is}
 use Rattle.c_syntax_printing.proofs.printing.statements.+printed_statement.Goals as goal
 
