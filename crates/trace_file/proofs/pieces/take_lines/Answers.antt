@@ -21,3 +21,6 @@ pub returns-in_err-take_line-clause-shows : goal.returns-in_err-take_line-clause
 returns-in_err-take_line-clause-shows g c =
     let p = err_from_is_err_and c.from_residual.result c.from_residual.ensures.1 in
     rw (p.1, p.2) (shows_later g.P.Place.reaches (g.P.Place.refuses c.take_line.new.place) c.args.place.now c.loop-line.place c.args.text.now c.loop-line.rest.now c.in-Some.line.now c.in-Some.after.now c.args.items.now.items c.loop-line.items.items c.in_err-take_line.field-0.0 c.loop-line.invariant.taken c.in-Some.ensures.parts c.in_err-take_line.ensures.shows)
+
+pub returns-in_err-take_line-clause-marks : goal.returns-in_err-take_line-clause-marks
+returns-in_err-take_line-clause-marks g c = λ mark first marked. c.take_line.ensures.marks mark first (c.loop-line.invariant.marks mark first marked)

@@ -1,8 +1,38 @@
-use Rattle.std.proofs.Common.{◌+◌, ap, arith}
+use Rattle.std.proofs.Common.{◌≡◌, ◌+◌, ℕ, List, ◌++◌, refl, ◌∙◌, ap, append_assoc, arith}
 use Rattle.std.proofs.lemmas.Result.{err_from_is_err_and}
+use Rattle.trace_file.specs.declared.error.TraceError.TheVariants.{OutOfMemory}
+use Rattle.trace_file.specs.declared.traces_place.TracesStage.{TracesStage}
+use Rattle.trace_file.specs.Refusals.{IsRefusedAt}
+use Rattle.trace_file.specs.TracesReading.{ReachesTraces}
+use Rattle.trace_file.proofs.PiecesLemmas.{shows_always}
 use Rattle.trace_file.proofs.ReachedLemmas.{whole_is_line}
 use Rattle.trace_file.proofs.TracesLemmas.{start_shows, start_takes, line_shows, record_takes, record_shows, end_takes, after_end_shows}
 use Rattle.trace_file.proofs.traces_place.TracesPlacePlace.read.Goals as goal
+
+-- what stands first in a list stands first in a longer one
+still_first : (first old new : List ℕ) → (more : List ℕ) × (old ≡ first ++ more) → (more : List ℕ) × (new ≡ old ++ more) → (more : List ℕ) × (new ≡ first ++ more)
+still_first first old new before grown =
+    (before.0 ++ grown.0, grown.1 ∙ ap (λ (t : List ℕ). t ++ grown.0) before.1 ∙ append_assoc first before.0 grown.0)
+
+memory_told : (at : TracesStage) (text : List ℕ) → IsRefusedAt at OutOfMemory text
+memory_told at text = record { refusal = tt; tells = λ other. absurd (other refl); first = λ other. absurd (other refl) }
+
+pub returns-in_err-add_record-in-Record-clause-marks : goal.returns-in_err-add_record-in-Record-clause-marks
+returns-in_err-add_record-in-Record-clause-marks c = λ mark first marked.
+    (marked.0, marked.1, still_first first.known c.args.self.now.known c.add_record.new.self marked.2 c.add_record.ensures.grown)
+
+pub returns-then-len-gt-MOST_PROCESSES-clause-marks : goal.returns-then-len-gt-MOST_PROCESSES-clause-marks
+returns-then-len-gt-MOST_PROCESSES-clause-marks c = λ mark first marked.
+    (marked.0, marked.1, still_first first.known c.args.self.now.known c.add_record.new.self marked.2 c.add_record.ensures.grown)
+
+pub returns-else-len-gt-MOST_PROCESSES-clause-marks : goal.returns-else-len-gt-MOST_PROCESSES-clause-marks
+returns-else-len-gt-MOST_PROCESSES-clause-marks c = λ mark first marked.
+    (marked.0, marked.1, still_first first.known c.args.self.now.known c.add_record.new.self marked.2 c.add_record.ensures.grown)
+
+pub returns-in_err-add_record-in-Record-clause-shows : goal.returns-in_err-add_record-in-Record-clause-shows
+returns-in_err-add_record-in-Record-clause-shows c =
+    let p = err_from_is_err_and c.from_residual-in_err-add_record-in-Record.result c.from_residual-in_err-add_record-in-Record.ensures.1 in
+    rw (p.1, p.2) (shows_always ReachesTraces (IsRefusedAt c.args.self.now.stage) c.args.self.now c.args.line.now OutOfMemory (memory_told c.args.self.now.stage))
 
 pub returns-in_err-version-in-Start-clause-shows : goal.returns-in_err-version-in-Start-clause-shows
 returns-in_err-version-in-Start-clause-shows c =

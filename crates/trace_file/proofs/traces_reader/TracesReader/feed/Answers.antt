@@ -29,6 +29,12 @@ stands_here c =
 memory_here : (c : goal.After-feed) → c.feed.result ≡ Err OutOfMemory → c.feed.new.self ≡ c.args.self.now
 memory_here c = subst (λ (held : Held TracesPlace). c.feed.result ≡ Err OutOfMemory → c.feed.new.self ≡ held) c.self.view_is c.feed.ensures.memory
 
+pub returns-clause-stands : goal.returns-clause-stands
+returns-clause-stands c = stands_here c
+
+pub returns-clause-memory : goal.returns-clause-memory
+returns-clause-memory c = memory_here c
+
 pub returns-clause-long : goal.returns-clause-long
 returns-clause-long c text records before over = (long_here c text records before over).0
 
