@@ -10,7 +10,7 @@ use Rattle.c_meaning_laws.specs.CallGraph.{callees, callee_at}
 use Rattle.call_graph.specs.declared.calls.Calls.{Calls}
 use Rattle.call_graph.specs.declared.sites.Place.{Place}
 use Rattle.call_graph.specs.Calls.{AreCallsOf, IsPlace, IsList, place_at}
-use Rattle.call_graph.specs.Callers.{AreCallers, IsReaching}
+use Rattle.call_graph.specs.Callers.{AreCallers, IsReaching, AreReaching}
 use Rattle.call_graph.specs.Places.{placed}
 use Rattle.std.specs.Borrow.{Bor}
 use Rattle.c_tree.specs.declared.tree.CType.{CType as TypeTree}
@@ -71,27 +71,32 @@ module _ (p : Program) (n : ℕ) (typed : IsProgram p n) (types : List CType) (c
   }
 
 -- what is named is taken
-pub named_taken : (p : Program) (ms items : List Told) (keys : List ℕ) → items ≡ ms → said ms ≡ mentions_of_program p → ((f : ℕ) → Contains keys f ↔ Contains (said items) (Named f)) → AreTaken p keys
-named_taken p ms items keys same are named f = both_ways (subst (λ xs. Contains keys f ↔ Contains xs (Named f)) (ap said same ∙ are) (named f)) (taken_told p f)
+pub named_taken : (p : Program) (ms : List Told) (keys : List ℕ) → said ms ≡ mentions_of_program p → ((f : ℕ) → Contains keys f ↔ Contains (said ms) (Named f)) → AreTaken p keys
+named_taken p ms keys are named f = both_ways (subst (λ xs. Contains keys f ↔ Contains xs (Named f)) are (named f)) (taken_told p f)
+
+-- the nodes found by the callers that were gathered
+pub reaching_by : (p : Program) (types : List CType) (lists : List (List ℕ)) (callers called : List (Vec ℕ Global)) (found : List ℕ) (d : ℕ)
+    → AreCallers p types lists callers → called ≡ callers → d ≡ defined p → ((k : ℕ) → Contains found k ↔ IsReaching called d k) → AreReaching p types lists found
+reaching_by p types lists callers called found d are same defined_is reaching =
+    (callers, are, λ k. subst (λ xs. Contains found k ↔ IsReaching xs (defined p) k) same (subst (λ d. Contains found k ↔ IsReaching called d k) defined_is (reaching k)))
 
 -- the same of what the code has
-pub calls_made : (p : Program) (n : ℕ) (c : Calls) (callers : List (Vec ℕ Global)) (ms one two three : List Told) (types four five six : List (Bor TypeTree)) (lists : List (Vec ℕ Global)) (called : List (Vec ℕ Global)) (d : ℕ)
-    → IsProgram p n → said ms ≡ mentions_of_program p → one ≡ ms → two ≡ ms → three ≡ ms → four ≡ types → five ≡ types → six ≡ types → lists ≡ c.lists.items → called ≡ callers
-    → d ≡ defined p → c.defined ≡ d
-    → ((f : ℕ) → Contains c.taken.keys f ↔ Contains (said one) (Named f))
-    → ((s : ℕ) (t : CType) → Contains (said two) (CallsAt s (Through t)) → Contains (types_at types) t)
-    → items_of c.lists.items ≡ map (λ t. callees p (Through t)) (types_at four)
-    → AreCallers p (types_at five) (items_of lists) callers
-    → ((k : ℕ) → Contains c.reaching.keys k ↔ IsReaching called d k)
+pub calls_made : (p : Program) (n : ℕ) (c : Calls) (ms : List Told) (types one two three : List (Bor TypeTree)) (lists : List (Vec ℕ Global))
+    → IsProgram p n → said ms ≡ mentions_of_program p → one ≡ types → two ≡ types → three ≡ types → lists ≡ c.lists.items → c.defined ≡ defined p
+    → ((f : ℕ) → Contains c.taken.keys f ↔ Contains (said ms) (Named f))
+    → ((s : ℕ) (t : CType) → Contains (said ms) (CallsAt s (Through t)) → Contains (types_at types) t)
+    → items_of c.lists.items ≡ map (λ t. callees p (Through t)) (types_at one)
+    → AreReaching p (types_at two) (items_of lists) c.reaching.keys
     → length c.places.items ≡ n
-    → ((s : ℕ) → s < n → slice_index_or c.places.items s None ≡ placed (types_at six) (callee_at s (said three)))
+    → ((s : ℕ) → s < n → slice_index_or c.places.items s None ≡ placed (types_at three) (callee_at s (said ms)))
     → AreCallsOf p c
-calls_made p n c callers ms one two three types four five six lists called d typed are e1 e2 e3 e4 e5 e6 e7 e8 e9 e10 taken all_types lists_are callers_are reaching many places =
-    made p n typed (types_at types) callers c (e10 ∙ e9)
-    (λ f. subst (λ xs. Contains c.taken.keys f ↔ Contains xs (Named f)) (ap said e1 ∙ are) (taken f))
-    (λ s t has. all_types s t (subst (λ xs. Contains xs (CallsAt s (Through t))) (sym (ap said e2 ∙ are)) has))
-    (lists_are ∙ ap (λ ts. map (λ t. callees p (Through t)) (types_at ts)) e4)
-    (subst (λ ls. AreCallers p (types_at types) (items_of ls) callers) e7 (subst (λ ts. AreCallers p (types_at ts) (items_of lists) callers) e5 callers_are))
-    (λ k. subst (λ xs. Contains c.reaching.keys k ↔ IsReaching xs (defined p) k) e8 (subst (λ d. Contains c.reaching.keys k ↔ IsReaching called d k) e9 (reaching k)))
+calls_made p n c ms types one two three lists typed are e1 e2 e3 e4 defined_is taken all_types lists_are by_callers many places =
+    let (callers, callers_are, reaching) = by_callers in
+    made p n typed (types_at types) callers c defined_is
+    (λ f. subst (λ xs. Contains c.taken.keys f ↔ Contains xs (Named f)) are (taken f))
+    (λ s t has. all_types s t (subst (λ xs. Contains xs (CallsAt s (Through t))) (sym are) has))
+    (lists_are ∙ ap (λ ts. map (λ t. callees p (Through t)) (types_at ts)) e1)
+    (subst (λ ls. AreCallers p (types_at types) (items_of ls) callers) e4 (subst (λ ts. AreCallers p (types_at ts) (items_of lists) callers) e2 callers_are))
+    reaching
     many
-    (λ s lt. places s lt ∙ ap (λ ts. placed (types_at ts) (callee_at s (said three))) e6 ∙ ap (λ xs. placed (types_at types) (callee_at s xs)) (ap said e3 ∙ are))
+    (λ s lt. places s lt ∙ ap (λ ts. placed (types_at ts) (callee_at s (said ms))) e3 ∙ ap (λ xs. placed (types_at types) (callee_at s xs)) are)

@@ -1,5 +1,5 @@
 -- What lists of trees say of functions, one after another.
-use Rattle.std.proofs.Common.{◌≡◌, ℕ, ◌+◌, ◌<◌, ◌≤◌, List, [], ◌∷◌, ◌++◌, length, take, get_or, refl, sym, ap, ◌∙◌}
+use Rattle.std.proofs.Common.{◌≡◌, ℕ, ◌+◌, ◌<◌, ◌≤◌, List, [], ◌∷◌, ◌++◌, length, take, get_or, refl, sym, ap, ap₂, ◌∙◌}
 use Rattle.std.specs.Prelude.{flat_map}
 use Rattle.std.proofs.lemmas.List.{take_more, take_all, append_assoc, append-nil}
 use Rattle.std.proofs.lemmas.Grind.{flat_map-append}
@@ -11,6 +11,7 @@ use Rattle.c_tree.specs.declared.tree.Static.{Static as StaticTree}
 use Rattle.c_meaning_laws.specs.Mentions.{mentions_of_function, mentions_of_static}
 use Rattle.std.specs.Prelude.{Box}
 use Rattle.c_tree.specs.declared.tree.TExpr.{TExpr}
+use Rattle.c_tree.specs.declared.tree.TExprKind.{TExprKind}
 use Rattle.c_tree.specs.declared.tree.TExprKind.TheVariants.{Comma, Call, CallThrough}
 use Rattle.c_tree.specs.declared.tree.TStmt.TheVariants.{Block, If, For, Switch}
 use Rattle.c_tree.specs.declared.tree.TInit.{TInit}
@@ -60,6 +61,19 @@ pub then_on : (r : Result (Unit {0}) OutOfMemory) (old mid new a b m : List Ment
 then_on (Ok u) old mid new a b m first e is = is ∙ ap (λ ms. ms ++ b) first ∙ append_assoc old a b ∙ ap (λ ms. old ++ ms) (sym e)
 then_on (Err x) old mid new a b m first e is = is
 
+-- what the form of an expression says: nothing, what its one part says, or what its two parts say
+pub of_leaf : (old : List Mention) (e : TExpr) (k : TExprKind) → e.kind ≡ k → mentions (expr_with (ctype_of e.ctype) k) ≡ [] → old ≡ old ++ mentions (expr_of e)
+of_leaf old e k is form = sym (append-nil old) ∙ ap (λ ms. old ++ ms) (sym (ap (λ k. mentions (expr_with (ctype_of e.ctype) k)) is ∙ form))
+
+pub of_part : (r : Result (Unit {0}) OutOfMemory) (old new : List Mention) (e f a : TExpr) (k : TExprKind) → e.kind ≡ k → f ≡ a → mentions (expr_with (ctype_of e.ctype) k) ≡ mentions (expr_of a)
+    → OnOk r (new ≡ old ++ mentions (expr_of f)) → OnOk r (new ≡ old ++ mentions (expr_of e))
+of_part r old new e f a k is same form = on_same r old new (mentions (expr_of e)) (mentions (expr_of f)) (ap (λ k. mentions (expr_with (ctype_of e.ctype) k)) is ∙ form ∙ ap (λ x. mentions (expr_of x)) (sym same))
+
+pub of_two : (r : Result (Unit {0}) OutOfMemory) (old mid new : List Mention) (e f g a b : TExpr) (k : TExprKind) → e.kind ≡ k → f ≡ a → g ≡ b → mentions (expr_with (ctype_of e.ctype) k) ≡ mentions (expr_of a) ++ mentions (expr_of b)
+    → mid ≡ old ++ mentions (expr_of f) → OnOk r (new ≡ mid ++ mentions (expr_of g)) → OnOk r (new ≡ old ++ mentions (expr_of e))
+of_two r old mid new e f g a b k is one other form first = then_on r old mid new (mentions (expr_of f)) (mentions (expr_of g)) (mentions (expr_of e)) first
+    (ap (λ k. mentions (expr_with (ctype_of e.ctype) k)) is ∙ form ∙ ap₂ (λ x y. mentions (expr_of x) ++ mentions (expr_of y)) (sym one) (sym other))
+
 -- expressions and statements that hold lists
 pub of_comma : (e : TExpr) (v : Vec TExpr Global) → e.kind ≡ Comma v → mentions (expr_of e) ≡ mentions_of_all (exprs_of v.items)
 of_comma e v is = ap (λ k. mentions (expr_with (ctype_of e.ctype) k)) is ∙ ap mentions (comma_is (ctype_of e.ctype) v)
@@ -70,6 +84,9 @@ of_call e s f v is = ap (λ k. mentions (expr_with (ctype_of e.ctype) k)) is ∙
 pub of_call_through : (e : TExpr) (s : ℕ) (d : Box TExpr Global) (v : Vec TExpr Global) → e.kind ≡ CallThrough s d v → mentions (expr_of e) ≡ mentions (expr_of d.value) ++ Calls s (Through (ctype_of d.value.ctype)) ∷ mentions_of_all (exprs_of v.items)
 of_call_through e s d v is =
     ap (λ k. mentions (expr_with (ctype_of e.ctype) k)) is ∙ ap mentions (call_through_is (ctype_of e.ctype) s d v) ∙ ap (λ t. mentions (expr_of d.value) ++ Calls s (Through t) ∷ mentions_of_all (exprs_of v.items)) (type_is d.value)
+
+pub of_empty : (old : List Mention) (s k : TStmt) → s ≡ k → mentions_of_stmt (stmt_of k) ≡ [] → old ≡ old ++ mentions_of_stmt (stmt_of s)
+of_empty old s k is form = sym (append-nil old) ∙ ap (λ ms. old ++ ms) (sym (ap (λ s. mentions_of_stmt (stmt_of s)) is ∙ form))
 
 pub of_block : (s : TStmt) (v : Vec TStmt Global) → s ≡ Block v → mentions_of_stmt (stmt_of s) ≡ mentions_of_stmts (stmts_of v.items)
 of_block s v is = ap (λ s. mentions_of_stmt (stmt_of s)) is ∙ ap mentions_of_stmt (block_is v)

@@ -67,3 +67,8 @@ pub record AreCallers (p : Program) (types : List CType) (lists : List (List ℕ
   pub few : length types < 2 ^ 63
   pub many : length callers ≡ defined p + 24 + length types
   pub are : (e : Link) → HasCaller callers e ↔ (IsCallBelow (defined p + 24 + length types) types (defined p + 24) p (defined p) e ⊎ IsCandidateBelow (defined p + 24 + length types) (defined p + 24) lists (length lists) e)
+
+-- the nodes from which calls lead to a system call are found by the callers of each
+abbrev pub AreReaching : Program → List CType → List (List ℕ) → List ℕ → Type 0
+AreReaching p types lists found =
+    (callers : List (Vec ℕ Global)) × AreCallers p types lists callers × ((k : ℕ) → Contains found k ↔ IsReaching callers (defined p) k)

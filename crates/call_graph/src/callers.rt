@@ -72,8 +72,7 @@ fn add_call(
     let Some(node) = node_of(types, count, m) else {
         return Ok(());
     };
-    add_caller(callers, node, by)?;
-    Ok(())
+    add_caller(callers, node, by)
 }
 
 // The same for each of the mentions in its body.

@@ -21,10 +21,7 @@ fn note_name(named: &mut IndexSet<u32>, m: &Mention) -> Result<(), OutOfMemory>
     ensures { OnOk result (Adds named.old.keys named.new.keys (λ g. mention_of m.now ≡ Named g)) }
 {
     match m {
-        Mention::Named(f) => {
-            note(named, *f)?;
-            Ok(())
-        }
+        Mention::Named(f) => note(named, *f),
         Mention::Direct { .. } => Ok(()),
         Mention::Through { .. } => Ok(()),
     }

@@ -34,8 +34,7 @@ fn note_callers(
     if node >= callers.len() {
         return Ok(());
     }
-    note_each(found, &callers[node])?;
-    Ok(())
+    note_each(found, &callers[node])
 }
 
 // Adds all nodes from which calls lead to those that are there. The callers of each are looked at once.

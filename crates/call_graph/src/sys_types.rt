@@ -57,6 +57,5 @@ fn types_by(alloc: Global, ps: &[Prototype]) -> Result<Vec<CType>, OutOfMemory>
 pub fn types_of_calls(alloc: Global) -> Result<Vec<CType>, OutOfMemory>
     ensures { IfOk result (λ made. ctypes_of made.items ≡ sys_types) }
 {
-    let made = types_by(alloc, system_prototypes())?;
-    Ok(made)
+    types_by(alloc, system_prototypes())
 }

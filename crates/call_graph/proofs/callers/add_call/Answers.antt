@@ -1,4 +1,5 @@
 use Rattle.std.proofs.Common.{length, sym, ◌∙◌}
+use Rattle.std.proofs.lemmas.Result.{on_ok_weaker}
 use Rattle.call_graph.specs.Saying.{mention_of}
 use Rattle.call_graph.specs.Types.{types_at}
 use Rattle.call_graph.proofs.CallersLemmas.{call_of_node, call_of_none}
@@ -8,4 +9,4 @@ pub returns-in_default-clause-added : goal.returns-in_default-clause-added
 returns-in_default-clause-added c = call_of_none (length c.args.callers.now.items) (types_at c.args.types.now) c.args.count c.args.by (mention_of c.args.m.now) c.args.callers.now.items (sym c.node_of.ensures ∙ c.in_default.is)
 
 pub returns-clause-added : goal.returns-clause-added
-returns-clause-added c = call_of_node (length c.args.callers.now.items) (types_at c.args.types.now) c.args.count c.args.by c.in-Some.node (mention_of c.args.m.now) c.args.callers.now.items c.add_caller.new.callers.items (sym c.node_of.ensures ∙ c.in-Some.is) c.in_ok-add_caller.ensures.added
+returns-clause-added c = on_ok_weaker c.add_caller.result (call_of_node (length c.args.callers.now.items) (types_at c.args.types.now) c.args.count c.args.by c.in-Some.node (mention_of c.args.m.now) c.args.callers.now.items c.add_caller.new.callers.items (sym c.node_of.ensures ∙ c.in-Some.is)) c.add_caller.ensures.added

@@ -1,4 +1,5 @@
 use Rattle.std.proofs.Common.{sym, ap, ◌∙◌, Some, subst, ◌≡◌}
+use Rattle.std.proofs.lemmas.Result.{on_ok_weaker}
 use Rattle.std.proofs.lemmas.Option.{slice_get-get_or, slice_get_past}
 use Rattle.call_graph.specs.Callers.{HasCaller}
 use Rattle.dm_base.specs.Adding.{Has, Adds}
@@ -10,4 +11,7 @@ pub returns-then-node-callers : goal.returns-then-node-callers
 returns-then-node-callers c = adds_nothing c.args.found.now.keys (λ k. HasCaller c.args.callers.now (record { by = k; to = c.args.node })) (no_callers_of c.args.callers.now c.args.node (slice_get_past c.args.callers.now c.args.node c.if-node-callers.true))
 
 pub returns : goal.returns
-returns c = adds_same c.args.found.now.keys c.note_each.new.found.keys (λ k. Has (λ n. k ≡ n) c.index-callers-node.result.items) (λ k. HasCaller c.args.callers.now (record { by = k; to = c.args.node })) (callers_in c.args.callers.now c.args.node c.index-callers-node.result (slice_get-get_or c.args.callers.now c.args.node c.index-callers-node.result c.if-node-callers.false ∙ ap Some (sym c.index-callers-node.is))) (subst (λ ns. Adds c.args.found.now.keys c.note_each.new.found.keys (λ k. Has (λ n. k ≡ n) ns)) c.deref.ensures.value c.in_ok-note_each.ensures)
+returns c =
+    on_ok_weaker c.note_each.result (λ (adds : Adds c.args.found.now.keys c.note_each.new.found.keys (λ k. Has (λ n. k ≡ n) c.deref.result.now)).
+    adds_same c.args.found.now.keys c.note_each.new.found.keys (λ k. Has (λ n. k ≡ n) c.index-callers-node.result.items) (λ k. HasCaller c.args.callers.now (record { by = k; to = c.args.node })) (callers_in c.args.callers.now c.args.node c.index-callers-node.result (slice_get-get_or c.args.callers.now c.args.node c.index-callers-node.result c.if-node-callers.false ∙ ap Some (sym c.index-callers-node.is))) (subst (λ ns. Adds c.args.found.now.keys c.note_each.new.found.keys (λ k. Has (λ n. k ≡ n) ns)) c.deref.ensures.value adds))
+    c.note_each.ensures

@@ -1,10 +1,10 @@
-use Rattle.std.proofs.Common.{◌++◌, ◌∙◌, ap, sym}
+use Rattle.std.proofs.Common.{◌++◌, ◌∙◌, ap, refl, sym}
 use Rattle.std.proofs.lemmas.List.{append_assoc}
-use Rattle.c_tree.specs.View.{expr_of, maybe_of, stmt_of, stmts_of, groups_of}
+use Rattle.c_tree.specs.View.{expr_of, maybe_of, inits_of, stmt_of, stmts_of, groups_of}
 use Rattle.c_tree.specs.declared.tree.TGroup.{TGroup}
-use Rattle.c_meaning_laws.specs.Mentions.{mentions, mentions_of_maybe, mentions_of_stmt, mentions_of_stmts, mentions_of_groups}
+use Rattle.c_meaning_laws.specs.Mentions.{mentions, mentions_of_maybe, mentions_of_inits, mentions_of_stmt, mentions_of_stmts, mentions_of_groups}
 use Rattle.call_graph.specs.Saying.{said}
-use Rattle.call_graph.proofs.SayingLemmas.{of_block, of_for, of_switch, stmts_flat, groups_flat, all_of_flat, on_same, then_on, two_parts}
+use Rattle.call_graph.proofs.SayingLemmas.{of_empty, of_block, of_for, of_switch, stmts_flat, groups_flat, all_of_flat, on_same, then_on, two_parts}
 use Rattle.call_graph.proofs.saying.+statements.Goals as goal
 
 pub add_groups-returns : goal.add_groups-returns
@@ -12,6 +12,31 @@ add_groups-returns t c = all_of_flat (λ (g : TGroup). mentions_of_stmts (stmts_
 
 pub add_statement-returns-in-Block : goal.add_statement-returns-in-Block
 add_statement-returns-in-Block t c = on_same c.add_statements.result (said c.args.into.now.items) (said c.add_statements.new.into.items) (mentions_of_stmt (stmt_of c.args.s.now)) (mentions_of_stmts (stmts_of c.deref.result.now)) (of_block c.args.s.now c.in-Block.ss c.in-Block.is ∙ ap (λ ss. mentions_of_stmts (stmts_of ss)) (sym c.deref.ensures.value)) c.add_statements.ensures
+
+pub add_statement-returns-in-Empty : goal.add_statement-returns-in-Empty
+add_statement-returns-in-Empty t c = of_empty (said c.args.into.now.items) c.args.s.now _ c.in-Empty.is refl
+
+pub add_statement-returns-in-Break : goal.add_statement-returns-in-Break
+add_statement-returns-in-Break t c = of_empty (said c.args.into.now.items) c.args.s.now _ c.in-Break.is refl
+
+pub add_statement-returns-in-Continue : goal.add_statement-returns-in-Continue
+add_statement-returns-in-Continue t c = of_empty (said c.args.into.now.items) c.args.s.now _ c.in-Continue.is refl
+
+pub add_statement-returns-in-Expr : goal.add_statement-returns-in-Expr
+add_statement-returns-in-Expr t c = on_same c.add_expression.result (said c.args.into.now.items) (said c.add_expression.new.into.items) (mentions_of_stmt (stmt_of c.args.s.now)) (mentions (expr_of c.in-Expr.e)) (ap (λ s. mentions_of_stmt (stmt_of s)) c.in-Expr.is) c.add_expression.ensures
+
+pub add_statement-returns-in-Declare : goal.add_statement-returns-in-Declare
+add_statement-returns-in-Declare t c = on_same c.add_inits.result (said c.args.into.now.items) (said c.add_inits.new.into.items) (mentions_of_stmt (stmt_of c.args.s.now)) (mentions_of_inits (inits_of c.deref-in-Declare.result.now)) (ap (λ s. mentions_of_stmt (stmt_of s)) c.in-Declare.is ∙ ap (λ is. mentions_of_inits (inits_of is)) (sym c.deref-in-Declare.ensures.value)) c.add_inits.ensures
+
+pub add_statement-returns-in_ok-add_expression-in-While : goal.add_statement-returns-in_ok-add_expression-in-While
+add_statement-returns-in_ok-add_expression-in-While t c = let e = c.in-While.test in
+    then_on c.add_statement-in-While.result (said c.args.into.now.items) (said c.add_expression-in-While.new.into.items) (said c.add_statement-in-While.new.into.items) (mentions (expr_of e)) (mentions_of_stmt (stmt_of c.deref-in-While.result.now)) (mentions_of_stmt (stmt_of c.args.s.now)) c.in_ok-add_expression-in-While.ensures
+    (ap (λ s. mentions_of_stmt (stmt_of s)) c.in-While.is ∙ ap (λ s. mentions (expr_of e) ++ mentions_of_stmt (stmt_of s)) (sym c.deref-in-While.ensures)) c.add_statement-in-While.ensures
+
+pub add_statement-returns-in_ok-add_statement-in-Do : goal.add_statement-returns-in_ok-add_statement-in-Do
+add_statement-returns-in_ok-add_statement-in-Do t c = let e = c.in-Do.test in
+    then_on c.add_expression-in-Do.result (said c.args.into.now.items) (said c.add_statement-in-Do.new.into.items) (said c.add_expression-in-Do.new.into.items) (mentions_of_stmt (stmt_of c.deref-in-Do.result.now)) (mentions (expr_of e)) (mentions_of_stmt (stmt_of c.args.s.now)) c.in_ok-add_statement-in-Do.ensures
+    (ap (λ s. mentions_of_stmt (stmt_of s)) c.in-Do.is ∙ ap (λ s. mentions_of_stmt (stmt_of s) ++ mentions (expr_of e)) (sym c.deref-in-Do.ensures)) c.add_expression-in-Do.ensures
 
 pub add_statement-returns-in_ok-add_maybe-in-For-2 : goal.add_statement-returns-in_ok-add_maybe-in-For-2
 add_statement-returns-in_ok-add_maybe-in-For-2 t c = let i = c.in-For in
