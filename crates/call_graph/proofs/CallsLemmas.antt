@@ -1,6 +1,8 @@
 -- What a call graph answers.
-use Rattle.std.proofs.Common.{◌≡◌, ℕ, ◌+◌, ◌<◌, ◌≤◌, ◌^◌, Bool, true, false, ◌&&◌, List, [], ◌∷◌, Contains, Option, None, Some, Vec, Global, refl, sym, ◌∙◌, ap, subst, nat_eq, arith}
+use Rattle.std.proofs.Common.{◌≡◌, ℕ, ◌+◌, ◌<◌, ◌≤◌, ◌^◌, Bool, true, false, ◌&&◌, List, [], ◌∷◌, Contains, Option, None, Some, Vec, Global, refl, sym, ◌∙◌, ap, subst, nat_eq, get_or, arith}
 use Rattle.std.specs.Prelude.{slice_get, nat_lt}
+use Rattle.std.specs.Borrow.{Bor}
+use Rattle.std.specs.Option.{option_map, unwrap_or}
 use Rattle.std.specs.List.{list_any}
 use Rattle.std.proofs.lemmas.Bool.{lt-ltb, ltb-true}
 use Rattle.c_tree.specs.Tree.{Program}
@@ -12,6 +14,10 @@ use Rattle.call_graph.specs.declared.sites.Place.{Place}
 use Rattle.call_graph.specs.declared.sites.Place.TheVariants.{Function, Pointer}
 use Rattle.call_graph.specs.Calls.{AreCallsOf, IsPlace, place_at}
 use Rattle.call_graph.proofs.Members.{any_from, any_to, same_answer}
+
+-- what is read at a site
+pub read_at : (c : Calls) (s : ℕ) (r q : Option (Bor (Option Place))) (xs : List (Option Place)) → unwrap_or (option_map (λ x. x.now) r) None ≡ get_or xs s None → xs ≡ c.places.items → r ≡ q → place_at c s ≡ unwrap_or (option_map (λ x. x.now) q) None
+read_at c s r q xs told same is = ap (λ xs. get_or xs s None) (sym same) ∙ sym told ∙ ap (λ r. unwrap_or (option_map (λ x. x.now) r) None) is
 
 module _ (p : Program) (c : Calls) (are : AreCallsOf p c) where
   pub taken_answer : (f : ℕ) (b : Bool) → b ≡ list_any (nat_eq f) c.taken.keys → b ≡ is_taken p f

@@ -1,10 +1,10 @@
-use Rattle.std.proofs.Common.{◌++◌, ◌∙◌, ap, refl, sym}
+use Rattle.std.proofs.Common.{◌++◌, ◌∙◌, ap, ap₂, refl, sym}
 use Rattle.std.proofs.lemmas.List.{append_assoc}
 use Rattle.c_tree.specs.View.{expr_of, maybe_of, inits_of, stmt_of, stmts_of, groups_of}
 use Rattle.c_tree.specs.declared.tree.TGroup.{TGroup}
 use Rattle.c_meaning_laws.specs.Mentions.{mentions, mentions_of_maybe, mentions_of_inits, mentions_of_stmt, mentions_of_stmts, mentions_of_groups}
 use Rattle.call_graph.specs.Saying.{said}
-use Rattle.call_graph.proofs.SayingLemmas.{of_empty, of_block, of_for, of_switch, stmts_flat, groups_flat, all_of_flat, on_same, then_on, two_parts}
+use Rattle.call_graph.proofs.SayingLemmas.{of_empty, of_if_none, of_if_some, of_block, of_for, of_switch, stmts_flat, groups_flat, all_of_flat, on_same, then_on, two_parts}
 use Rattle.call_graph.proofs.saying.+statements.Goals as goal
 
 pub add_groups-returns : goal.add_groups-returns
@@ -27,6 +27,26 @@ add_statement-returns-in-Expr t c = on_same c.add_expression.result (said c.args
 
 pub add_statement-returns-in-Declare : goal.add_statement-returns-in-Declare
 add_statement-returns-in-Declare t c = on_same c.add_inits.result (said c.args.into.now.items) (said c.add_inits.new.into.items) (mentions_of_stmt (stmt_of c.args.s.now)) (mentions_of_inits (inits_of c.deref-in-Declare.result.now)) (ap (λ s. mentions_of_stmt (stmt_of s)) c.in-Declare.is ∙ ap (λ is. mentions_of_inits (inits_of is)) (sym c.deref-in-Declare.ensures.value)) c.add_inits.ensures
+
+pub add_statement-returns-in-None : goal.add_statement-returns-in-None
+add_statement-returns-in-None t c = let i = c.in-If in
+    let old = said c.args.into.now.items in
+    let E = mentions (expr_of i.test) in
+    two_parts old (said c.add_expression-in-If.new.into.items) (said c.add_statement.new.into.items) E (mentions_of_stmt (stmt_of c.deref-in-If.result.now)) c.in_ok-add_expression-in-If.ensures c.in_ok-add_statement-in-If.ensures
+    ∙ ap (λ s. old ++ (E ++ mentions_of_stmt (stmt_of s))) c.deref-in-If.ensures
+    ∙ ap (λ ms. old ++ ms) (sym (of_if_none c.args.s.now i.test i.yes i.no i.is c.in-None.is))
+
+pub add_statement-returns-in-Some : goal.add_statement-returns-in-Some
+add_statement-returns-in-Some t c = let i = c.in-If in
+    let old = said c.args.into.now.items in
+    let last = said c.add_statement.new.into.items in
+    let E = mentions (expr_of i.test) in
+    let yes = mentions_of_stmt (stmt_of c.deref-in-If.result.now) in
+    let no = mentions_of_stmt (stmt_of c.deref-in-Some.result.now) in
+    then_on c.add_statement-in-Some.result old last (said c.add_statement-in-Some.new.into.items) (E ++ yes) no (mentions_of_stmt (stmt_of c.args.s.now))
+    (two_parts old (said c.add_expression-in-If.new.into.items) last E yes c.in_ok-add_expression-in-If.ensures c.in_ok-add_statement-in-If.ensures)
+    (of_if_some c.args.s.now i.test i.yes c.in-Some.no i.no i.is c.in-Some.is ∙ ap₂ (λ s u. E ++ (mentions_of_stmt (stmt_of s) ++ mentions_of_stmt (stmt_of u))) (sym c.deref-in-If.ensures) (sym c.deref-in-Some.ensures) ∙ sym (append_assoc E yes no))
+    c.add_statement-in-Some.ensures
 
 pub add_statement-returns-in_ok-add_expression-in-While : goal.add_statement-returns-in_ok-add_expression-in-While
 add_statement-returns-in_ok-add_expression-in-While t c = let e = c.in-While.test in
