@@ -1,16 +1,24 @@
 -- How the evaluation of an expression begins.
-use Rattle.std.proofs.Common.{◌≡◌, ℕ, Bool, true, List, [], ◌++◌, sym, ap, ◌∙◌}
+use Rattle.std.proofs.Common.{◌≡◌, ℕ, Bool, true, List, [], ◌++◌, IfOk, sym, ap, ◌∙◌}
+use Rattle.std.specs.Prelude.{Result as OrError}
+use Rattle.std.proofs.lemmas.Result.{MatchResult-weaker}
+use Rattle.dm_base.specs.declared.memory.OutOfMemory.{OutOfMemory}
 use Rattle.c_tree.specs.declared.value.Value.{Value}
 use Rattle.c_tree.specs.declared.value.BinOp.{BinOp}
 use Rattle.c_tree.specs.declared.tree.TExpr.{TExpr}
 use Rattle.c_tree.specs.Tree.{CType, Expr, Exprs, decay, update, call, call_through, Program}
 use Rattle.c_tree.specs.View.{ctype_of, expr_of}
+use Rattle.c_values.specs.Memory.{Objects}
 use Rattle.c_meaning.specs.Meaning.{Frame as Place, World, wants}
 use Rattle.c_meaning.specs.Pointers.{load_place}
-use Rattle.c_meaning.specs.Results.{State, Result, Go, then_do, answered}
+use Rattle.c_meaning.specs.Results.{State, with_memory, Result, Go, then_do, answered}
 use Rattle.ref_machine_frames.specs.Held.{called, decayed, eval, eval_all}
 use Rattle.ref_machine_frames.specs.declared.frames.Callee.TheVariants as callees
-use Rattle.ref_machine_frames.specs.Frames.{made}
+use Rattle.ref_machine_frames.specs.declared.frames.Here.{Here}
+use Rattle.ref_machine_frames.specs.declared.frames.Frame.{Frame}
+use Rattle.ref_machine_frames.specs.declared.frames.Now.{Now}
+use Rattle.ref_machine_frames.specs.Frames.{place_of, stack, after_value, made}
+use Rattle.ref_machine_frames.specs.Parts.{Gives}
 use Rattle.ref_machine_expressions.specs.Renewing.{renewing}
 use Rattle.ref_machine_frames.proofs.Joining.{after_none}
 use Rattle.c_tree.proofs.CalledTypes.{type_is}
@@ -18,6 +26,13 @@ use Rattle.c_tree.proofs.CalledTypes.{type_is}
 -- an expression that is seen as another term
 pub begun : (p : Program) (w : World) (fr : Place) (wanted : Bool) (e f : Expr) (st : State) (k : Value → State → Result Value) (x : Result Value) → x ≡ then_do (eval p w fr wanted e st) k → e ≡ f → x ≡ then_do (eval p w fr wanted f st) k
 begun p w fr wanted e f st k x h is = h ∙ ap (λ e. then_do (eval p w fr wanted e st) k) is
+
+-- a step that begins the one begins the other
+pub begins : (r : OrError Now OutOfMemory) (p : Program) (h : Here) (m : Objects) (old new : List Frame) (wanted : Bool) (e f : Expr)
+    → IfOk r (λ now. (p : Program) (h : Here) (m : Objects) → Gives p h m old (λ w st. eval p w (place_of h) wanted e st) now m new)
+    → e ≡ f → IfOk r (λ now. Gives p h m old (λ w st. eval p w (place_of h) wanted f st) now m new)
+begins r p h m old new wanted e f is same =
+    MatchResult-weaker r is (λ now gives w st. gives p h m w st ∙ ap (λ e. then_do (eval p w (place_of h) wanted e (with_memory st m)) (after_value p w (place_of h) (stack old))) same) (λ error none. none)
 
 -- a value is there at once
 pub at_once : (v : Value) (st : State) (k : Value → State → Result Value) → k v st ≡ then_do (Go v st []) k

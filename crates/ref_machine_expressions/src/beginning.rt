@@ -69,50 +69,27 @@ pub fn begin<'p>(
         TExprKind::Variable { is_static, number } => {
             Ok(given(whole(counts, name_in(here, *is_static, *number), &e.ctype)))
         }
-        TExprKind::Deref(a) => {
-            let now = wait(todo, ValueFrame::One(Step::Deref(&e.ctype)), true, a)?;
-            Ok(now)
-        }
-        TExprKind::Load(a) => {
-            let now = wait(todo, ValueFrame::One(Step::Load), true, a)?;
-            Ok(now)
-        }
+        TExprKind::Deref(a) => wait(todo, ValueFrame::One(Step::Deref(&e.ctype)), true, a),
+        TExprKind::Load(a) => wait(todo, ValueFrame::One(Step::Load), true, a),
         TExprKind::AddressOf(a) => Ok(Now::Eval {
             wanted: true,
             of: a,
         }),
-        TExprKind::Decay(a) => {
-            let now = wait(todo, ValueFrame::One(Step::Decay(&a.ctype)), true, a)?;
-            Ok(now)
-        }
-        TExprKind::Discard(a) => {
-            let now = wait(todo, ValueFrame::One(Step::Discard), false, a)?;
-            Ok(now)
-        }
-        TExprKind::Field(a, first) => {
-            let now = wait(
-                todo,
-                ValueFrame::One(Step::Field(*first, &e.ctype)),
-                true,
-                a,
-            )?;
-            Ok(now)
-        }
-        TExprKind::Unary(op, a) => {
-            let now = wait(todo, ValueFrame::One(Step::Unary(*op)), true, a)?;
-            Ok(now)
-        }
-        TExprKind::Convert(to, a) => {
-            let now = wait(todo, ValueFrame::One(Step::Convert(*to)), true, a)?;
-            Ok(now)
-        }
+        TExprKind::Decay(a) => wait(todo, ValueFrame::One(Step::Decay(&a.ctype)), true, a),
+        TExprKind::Discard(a) => wait(todo, ValueFrame::One(Step::Discard), false, a),
+        TExprKind::Field(a, first) => wait(
+            todo,
+            ValueFrame::One(Step::Field(*first, &e.ctype)),
+            true,
+            a,
+        ),
+        TExprKind::Unary(op, a) => wait(todo, ValueFrame::One(Step::Unary(*op)), true, a),
+        TExprKind::Convert(to, a) => wait(todo, ValueFrame::One(Step::Convert(*to)), true, a),
         TExprKind::Arith(op, a, b) => {
-            let now = wait(todo, ValueFrame::First(Pair::Arith(*op), b), true, a)?;
-            Ok(now)
+            wait(todo, ValueFrame::First(Pair::Arith(*op), b), true, a)
         }
         TExprKind::Compare(op, a, b) => {
-            let now = wait(todo, ValueFrame::First(Pair::Compare(*op), b), true, a)?;
-            Ok(now)
+            wait(todo, ValueFrame::First(Pair::Compare(*op), b), true, a)
         }
         TExprKind::PointerAdd {
             pointer_first,
@@ -124,25 +101,14 @@ pub fn begin<'p>(
                 pointer_first: *pointer_first,
                 subtracted: *subtracted,
             };
-            let now = wait(todo, ValueFrame::First(pair, right), true, left)?;
-            Ok(now)
+            wait(todo, ValueFrame::First(pair, right), true, left)
         }
         TExprKind::PointerDiff(a, b) => {
-            let now = wait(todo, ValueFrame::First(Pair::PointerDiff, b), true, a)?;
-            Ok(now)
+            wait(todo, ValueFrame::First(Pair::PointerDiff, b), true, a)
         }
-        TExprKind::And(a, b) => {
-            let now = wait(todo, ValueFrame::Test(Choice::And(b)), true, a)?;
-            Ok(now)
-        }
-        TExprKind::Or(a, b) => {
-            let now = wait(todo, ValueFrame::Test(Choice::Or(b)), true, a)?;
-            Ok(now)
-        }
-        TExprKind::Assign(a, b) => {
-            let now = wait(todo, ValueFrame::Store(Storing::Place(b)), true, a)?;
-            Ok(now)
-        }
+        TExprKind::And(a, b) => wait(todo, ValueFrame::Test(Choice::And(b)), true, a),
+        TExprKind::Or(a, b) => wait(todo, ValueFrame::Test(Choice::Or(b)), true, a),
+        TExprKind::Assign(a, b) => wait(todo, ValueFrame::Store(Storing::Place(b)), true, a),
         TExprKind::Update {
             op,
             old,
@@ -155,26 +121,19 @@ pub fn begin<'p>(
                 ctype: &e.ctype,
                 right: value,
             };
-            let now = wait(todo, ValueFrame::Store(part), true, place)?;
-            Ok(now)
+            wait(todo, ValueFrame::Store(part), true, place)
         }
-        TExprKind::Cond(test, yes, no) => {
-            let now = wait(
-                todo,
-                ValueFrame::Test(Choice::Cond {
-                    wanted: true,
-                    yes,
-                    no,
-                }),
-                true,
-                test,
-            )?;
-            Ok(now)
-        }
-        TExprKind::Comma(es) => {
-            let now = members(todo, wanted, es)?;
-            Ok(now)
-        }
+        TExprKind::Cond(test, yes, no) => wait(
+            todo,
+            ValueFrame::Test(Choice::Cond {
+                wanted: true,
+                yes,
+                no,
+            }),
+            true,
+            test,
+        ),
+        TExprKind::Comma(es) => members(todo, wanted, es),
         TExprKind::Call {
             site: _site,
             function,
@@ -183,8 +142,7 @@ pub fn begin<'p>(
             let wanted = wants(wanted, &e.ctype);
             let whom = Callee::Named(*function);
             let none = Vec::new(alloc);
-            let now = arguments(alloc, program, memory, todo, wanted, whom, none, left)?;
-            Ok(now)
+            arguments(alloc, program, memory, todo, wanted, whom, none, left)
         }
         TExprKind::CallThrough {
             site: _site,
@@ -195,8 +153,7 @@ pub fn begin<'p>(
                 wanted: wants(wanted, &e.ctype),
                 arguments: left,
             };
-            let now = wait(todo, frame, true, designator)?;
-            Ok(now)
+            wait(todo, frame, true, designator)
         }
     }
 }

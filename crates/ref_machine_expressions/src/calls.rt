@@ -95,10 +95,7 @@ fn system_call<'p>(
     }
     match requested(alloc, memory, name, values) {
         Ok(request) => Ok(asking(name, request)),
-        Err(error) => {
-            let now = refused(error)?;
-            Ok(now)
-        }
+        Err(error) => refused(error),
     }
 }
 
@@ -118,8 +115,7 @@ fn call_system<'p>(
     let Some(name) = SysName::from_index(x as u8) else {
         unreachable!()
     };
-    let now = system_call(alloc, memory, name, values)?;
-    Ok(now)
+    system_call(alloc, memory, name, values)
 }
 
 // The one argument of a null call.
@@ -167,8 +163,7 @@ fn call_undefined<'p>(
     ensures done { IfOk result (λ now. of_now now ≡ 0) }
 {
     if x < 24 {
-        let now = call_system(alloc, memory, x, values)?;
-        return Ok(now);
+        return call_system(alloc, memory, x, values);
     }
     match site_in(values) {
         Some(site) => Ok(null_call(x, site)),
@@ -196,8 +191,7 @@ fn called<'p>(
             arguments: values,
         });
     }
-    let now = call_undefined(alloc, memory, f - count, &values)?;
-    Ok(now)
+    call_undefined(alloc, memory, f - count, &values)
 }
 
 // The same through a pointer.
@@ -220,8 +214,7 @@ fn called_through<'p>(
             arguments: values,
         });
     }
-    let now = call_system(alloc, memory, f - count, &values)?;
-    Ok(now)
+    call_system(alloc, memory, f - count, &values)
 }
 
 // A call with its arguments.
@@ -237,15 +230,9 @@ fn made<'p>(
     ensures less { IfOk result (λ now. of_now now ≤ 1) }
 {
     match whom {
-        Callee::Named(f) => {
-            let now = called(alloc, program, memory, wanted, f, values)?;
-            Ok(now)
-        }
+        Callee::Named(f) => called(alloc, program, memory, wanted, f, values),
         Callee::Through(v) => match callee(v) {
-            Ok(f) => {
-                let now = called_through(alloc, program, memory, wanted, f, values)?;
-                Ok(now)
-            }
+            Ok(f) => called_through(alloc, program, memory, wanted, f, values),
             Err(fault) => Ok(stopped(fault)),
         },
     }
@@ -266,8 +253,7 @@ pub fn arguments<'p>(
     ensures less { IfOk result (λ now. work now todo.new.items ≤ 1 + (of_exprs (exprs_of left.now) + of_all todo.old.items)) }
 {
     let Some((first, rest)) = left.split_first() else {
-        let now = made(alloc, program, memory, wanted, whom, before)?;
-        return Ok(now);
+        return made(alloc, program, memory, wanted, whom, before);
     };
     let frame = ValueFrame::Argument {
         wanted,
@@ -275,6 +261,5 @@ pub fn arguments<'p>(
         before,
         rest,
     };
-    let now = wait(todo, frame, true, first)?;
-    Ok(now)
+    wait(todo, frame, true, first)
 }

@@ -25,8 +25,7 @@ fn chosen<'p>(
     match choice {
         Choice::And(second) => {
             if holds {
-                let now = wait(todo, ValueFrame::Test(Choice::Truth), true, second)?;
-                return Ok(now);
+                return wait(todo, ValueFrame::Test(Choice::Truth), true, second);
             }
             Ok(Now::Have(truth_value(false)))
         }
@@ -34,8 +33,7 @@ fn chosen<'p>(
             if holds {
                 return Ok(Now::Have(truth_value(true)));
             }
-            let now = wait(todo, ValueFrame::Test(Choice::Truth), true, second)?;
-            Ok(now)
+            wait(todo, ValueFrame::Test(Choice::Truth), true, second)
         }
         Choice::Truth => Ok(Now::Have(truth_value(holds))),
         Choice::Cond { wanted, yes, no } => {
@@ -58,10 +56,7 @@ pub fn choosing<'p>(
     ensures less { IfOk result (λ now. work now todo.new.items ≤ of_choice choice.entry + of_all todo.old.items) }
 {
     match test(memory, v) {
-        Ok(holds) => {
-            let now = chosen(todo, choice, holds)?;
-            Ok(now)
-        }
+        Ok(holds) => chosen(todo, choice, holds),
         Err(fault) => Ok(stopped(fault)),
     }
 }

@@ -127,8 +127,7 @@ fn renewed<'p>(
     ensures same { IfOk result (λ now. (p : Program) (h : Activation) → Gives p h (seen memory.old) todo.old.items (λ w st. remembered (store_place st.memory place new) (either old before new) st) now (seen memory.new) todo.new.items) }
     ensures less { IfOk result (λ now. work now todo.new.items ≤ of_all todo.old.items) }
 {
-    let now = stored(memory, todo, place, new, typed_value(old, before, new))?;
-    Ok(now)
+    stored(memory, todo, place, new, typed_value(old, before, new))
 }
 
 // The place of a compound assignment is loaded, and then its right side is evaluated.
@@ -154,8 +153,7 @@ fn loading<'p>(
                 place,
                 before,
             };
-            let now = wait(todo, ValueFrame::Store(next), true, right)?;
-            Ok(now)
+            wait(todo, ValueFrame::Store(next), true, right)
         }
         Err(fault) => Ok(stopped(fault)),
     }
@@ -177,10 +175,7 @@ fn renewing<'p>(
     ensures less { IfOk result (λ now. work now todo.new.items ≤ of_all todo.old.items) }
 {
     match updated(memory, op, ctype, right, before, v) {
-        Ok(new) => {
-            let now = renewed(memory, todo, old, place, before, new)?;
-            Ok(now)
-        }
+        Ok(new) => renewed(memory, todo, old, place, before, new),
         Err(fault) => Ok(stopped(fault)),
     }
 }
@@ -196,23 +191,14 @@ pub fn storing<'p>(
     ensures less { IfOk result (λ now. work now todo.new.items < of_storing part.entry + of_all todo.old.items) }
 {
     match part {
-        Storing::Place(right) => {
-            let now = wait(todo, ValueFrame::Store(Storing::Value(v)), true, right)?;
-            Ok(now)
-        }
-        Storing::Value(place) => {
-            let now = stored(memory, todo, place, v, v)?;
-            Ok(now)
-        }
+        Storing::Place(right) => wait(todo, ValueFrame::Store(Storing::Value(v)), true, right),
+        Storing::Value(place) => stored(memory, todo, place, v, v),
         Storing::Old {
             op,
             old,
             ctype,
             right,
-        } => {
-            let now = loading(memory, todo, op, old, ctype, right, v)?;
-            Ok(now)
-        }
+        } => loading(memory, todo, op, old, ctype, right, v),
         Storing::New {
             op,
             old,
@@ -220,9 +206,6 @@ pub fn storing<'p>(
             right,
             place,
             before,
-        } => {
-            let now = renewing(memory, todo, op, old, ctype, right, place, before, v)?;
-            Ok(now)
-        }
+        } => renewing(memory, todo, op, old, ctype, right, place, before, v),
     }
 }

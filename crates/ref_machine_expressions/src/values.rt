@@ -35,8 +35,7 @@ pub fn members<'p>(
     if rest.is_empty() {
         return Ok(Now::Eval { wanted, of: first });
     }
-    let now = wait(todo, ValueFrame::Members { wanted, rest }, false, first)?;
-    Ok(now)
+    wait(todo, ValueFrame::Members { wanted, rest }, false, first)
 }
 
 // The values of arguments, with one more.
@@ -64,31 +63,18 @@ pub fn with_value<'p>(
 {
     match frame {
         ValueFrame::One(step) => Ok(given(one_step(counts, memory, step, v))),
-        ValueFrame::First(pair, second) => {
-            let now = wait(todo, ValueFrame::Second(pair, v), true, second)?;
-            Ok(now)
-        }
+        ValueFrame::First(pair, second) => wait(todo, ValueFrame::Second(pair, v), true, second),
         ValueFrame::Second(pair, first) => Ok(given(two_step(memory, pair, first, v))),
-        ValueFrame::Store(part) => {
-            let now = storing(memory, todo, part, v)?;
-            Ok(now)
-        }
-        ValueFrame::Test(choice) => {
-            let now = choosing(memory, todo, choice, v)?;
-            Ok(now)
-        }
-        ValueFrame::Members { wanted, rest } => {
-            let now = members(todo, wanted, rest)?;
-            Ok(now)
-        }
+        ValueFrame::Store(part) => storing(memory, todo, part, v),
+        ValueFrame::Test(choice) => choosing(memory, todo, choice, v),
+        ValueFrame::Members { wanted, rest } => members(todo, wanted, rest),
         ValueFrame::Designator {
             wanted,
             arguments: left,
         } => {
             let whom = Callee::Through(v);
             let none = Vec::new(alloc);
-            let now = arguments(alloc, program, memory, todo, wanted, whom, none, left)?;
-            Ok(now)
+            arguments(alloc, program, memory, todo, wanted, whom, none, left)
         }
         ValueFrame::Argument {
             wanted,
@@ -97,8 +83,7 @@ pub fn with_value<'p>(
             rest,
         } => {
             let all = with_argument(before, v)?;
-            let now = arguments(alloc, program, memory, todo, wanted, callee, all, rest)?;
-            Ok(now)
+            arguments(alloc, program, memory, todo, wanted, callee, all, rest)
         }
     }
 }

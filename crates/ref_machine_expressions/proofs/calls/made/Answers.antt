@@ -1,4 +1,5 @@
 use Rattle.std.proofs.Common.{ap, sym, ◌∙◌}
+use Rattle.std.proofs.lemmas.Result.{MatchResult-weaker}
 use Rattle.c_tree.specs.View.{program_of}
 use Rattle.c_values.specs.Seen.{seen}
 use Rattle.c_meaning.specs.Pointers.{callee}
@@ -9,17 +10,19 @@ use Rattle.ref_machine_frames.specs.Frames.{after_value, made}
 use Rattle.ref_machine_expressions.proofs.Following.{goes_on_with, stops_with}
 use Rattle.ref_machine_expressions.proofs.calls.made.Goals as goal
 
-pub returns-in_ok-now-in-Named-clause-same : goal.returns-in_ok-now-in-Named-clause-same
-returns-in_ok-now-in-Named-clause-same c w fr todo st =
+pub returns-in-Named-clause-same : goal.returns-in-Named-clause-same
+returns-in-Named-clause-same c =
+    MatchResult-weaker c.called.result c.called.ensures.same (λ now same w fr todo st.
     let p = program_of c.args.program.now in
-    c.in_ok-now-in-Named.ensures.same w fr todo st ∙ ap (λ f. then_do (made p w c.args.wanted f c.args.values.items (with_memory st (seen c.args.memory.now))) (after_value p w fr todo)) (sym c.in-Named.is)
+    same w fr todo st ∙ ap (λ f. then_do (made p w c.args.wanted f c.args.values.items (with_memory st (seen c.args.memory.now))) (after_value p w fr todo)) (sym c.in-Named.is)) (λ error none. none)
 
-pub returns-in_ok-now-in-Ok-clause-same : goal.returns-in_ok-now-in-Ok-clause-same
-returns-in_ok-now-in-Ok-clause-same c w fr todo st =
+pub returns-in-Ok-clause-same : goal.returns-in-Ok-clause-same
+returns-in-Ok-clause-same c =
+    MatchResult-weaker c.called_through.result c.called_through.ensures.same (λ now same w fr todo st.
     let p = program_of c.args.program.now in
     let at = with_memory st (seen c.args.memory.now) in
-    goes_on_with (callee c.in-Through.v) c.in-Ok.f at (λ f st. called_through p w c.args.wanted f c.args.values.items st) (after_value p w fr todo) _ c.in-Ok.ensures (c.in_ok-now-in-Ok.ensures.same w fr todo st)
-    ∙ ap (λ f. then_do (made p w c.args.wanted f c.args.values.items at) (after_value p w fr todo)) (sym c.in-Through.is)
+    goes_on_with (callee c.in-Through.v) c.in-Ok.f at (λ f st. called_through p w c.args.wanted f c.args.values.items st) (after_value p w fr todo) _ c.in-Ok.ensures (same w fr todo st)
+    ∙ ap (λ f. then_do (made p w c.args.wanted f c.args.values.items at) (after_value p w fr todo)) (sym c.in-Through.is)) (λ error none. none)
 
 pub returns-in-Err-clause-same : goal.returns-in-Err-clause-same
 returns-in-Err-clause-same c w fr todo st =

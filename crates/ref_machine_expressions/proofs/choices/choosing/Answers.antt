@@ -1,3 +1,4 @@
+use Rattle.std.proofs.lemmas.Result.{MatchResult-weaker}
 use Rattle.c_values.specs.Seen.{seen}
 use Rattle.c_meaning.specs.Pointers.{test}
 use Rattle.c_meaning.specs.Results.{with_memory}
@@ -6,10 +7,11 @@ use Rattle.ref_machine_frames.specs.Frames.{place_of, stack, after_value, chosen
 use Rattle.ref_machine_expressions.proofs.Following.{goes_on_with, stops_with}
 use Rattle.ref_machine_expressions.proofs.choices.choosing.Goals as goal
 
-pub returns-in_ok-now-in-Ok-clause-same : goal.returns-in_ok-now-in-Ok-clause-same
-returns-in_ok-now-in-Ok-clause-same c p h w st =
+pub returns-in-Ok-clause-same : goal.returns-in-Ok-clause-same
+returns-in-Ok-clause-same c =
+    MatchResult-weaker c.chosen.result c.chosen.ensures.same (λ now same p h w st.
     let m = seen c.args.memory.now in
-    goes_on_with (test m c.args.v) c.in-Ok.holds (with_memory st m) (chosen p w (place_of h) c.args.choice) (after_value p w (place_of h) (stack c.args.todo.now.items)) _ c.in-Ok.ensures (c.in_ok-now-in-Ok.ensures.same p h m w st)
+    goes_on_with (test m c.args.v) c.in-Ok.holds (with_memory st m) (chosen p w (place_of h) c.args.choice) (after_value p w (place_of h) (stack c.args.todo.now.items)) _ c.in-Ok.ensures (same p h m w st)) (λ error none. none)
 
 pub returns-in-Err-clause-same : goal.returns-in-Err-clause-same
 returns-in-Err-clause-same c p h w st =
