@@ -1,5 +1,5 @@
 -- Keys and their marks, facts and their index.
-use Rattle.std.proofs.Common.{◌≡◌, ◌≢◌, ◌⊎◌, ◌↔◌, ℕ, nat_eq, ◌-◌, ◌<◌, Bool, true, false, List, [], ◌∷◌, ◌++◌, length, get_or, Contains, refl, sym, ◌∙◌, ap, subst, inl, inr, arith, take}
+use Rattle.std.proofs.Common.{◌≡◌, ◌≢◌, ◌⊎◌, ◌↔◌, ℕ, nat_eq, ◌-◌, ◌<◌, Bool, true, false, List, [], ◌∷◌, ◌++◌, length, get_or, Contains, refl, sym, ◌∙◌, ap, subst, inl, inr, arith, take, append-nil}
 use Rattle.std.proofs.Math.Seq.{take-append_seam}
 use Rattle.std.proofs.lemmas.List.{length-append}
 use Rattle.std.proofs.lemmas.Bool.{eq-eqb, eqb-true, false≢true}
@@ -46,6 +46,13 @@ added_one keys key = record {
     λ has. elim (Contains-push_cases keys key k has) as (λ _. Contains keys k ⊎ (k ≡ key)) [ inl was ↦ inl was | inr e ↦ inr (sym e) ],
     λ s. elim s as (λ _. Contains (keys ++ key ∷ []) k) [ inl was ↦ Contains-append_left keys (key ∷ []) k was | inr e ↦ subst (Contains (keys ++ key ∷ [])) (sym e) (Contains-push keys key) ],
   );
+}
+
+-- a key that is there adds nothing
+pub added_none : {X : Type 0} (keys : List X) (key : X) → Contains keys key → Adds keys keys (λ k. k ≡ key)
+added_none keys key there = record {
+  grows = ([], sym (append-nil keys));
+  is = λ k. (λ has. inl has, λ s. elim s as (λ _. Contains keys k) [ inl has ↦ has | inr e ↦ subst (Contains keys) (sym e) there ]);
 }
 
 -- the index has just the facts of the list

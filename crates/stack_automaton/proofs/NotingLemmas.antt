@@ -72,6 +72,18 @@ led_from s old mid key adds k = (
   λ (j, has, leads). (j, (adds.is j).1 has, leads),
 )
 
+-- a key is freed
+module _ (old new : States) (key : ℕ) (others : (k : ℕ) → k ≢ key → new k ≡ old k) where
+  pub freed_kept : (noted : List ℕ) (final : ℕ) → key ≢ final → (Contains noted key → ⊥) → (k : ℕ) → Contains noted k ⊎ (k ≡ final) → new k ≡ old k
+  freed_kept noted final other free k (inl has) = others k (λ e. free (subst (Contains noted) e has))
+  freed_kept noted final other free k (inr last) = others k (λ e. other (sym e ∙ last))
+
+  pub freed_fewer : new key ≡ None → (k : ℕ) (edges : List Edge) → new k ≡ Some edges → old k ≡ Some edges
+  freed_fewer gone k edges is = elim (cases_eq k key) as (λ _. old k ≡ Some edges) [
+    | inl e ↦ let both : None ≡ Some edges = sym gone ∙ ap new (sym e) ∙ is in absurd cc
+    | inr ne ↦ sym (others k ne) ∙ is
+  ]
+
 -- edges at a key that is swept or kept
 module _ (old new : States) (noted : List ℕ) (final : ℕ) (kept : (k : ℕ) → Contains noted k ⊎ (k ≡ final) → new k ≡ old k) where
   pub same_noted : (k l q : ℕ) → Contains noted k → HasEdge new k l q ↔ HasEdge old k l q

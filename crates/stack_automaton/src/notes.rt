@@ -70,9 +70,13 @@ fn sweep_one(states: &mut Slab<State>, noted: &KeySet, last: usize, key: usize)
     ensures gone { (Contains noted.now.keys key → ⊥) → key ≢ last → get states.new key ≡ None }
     ensures fewer { (k : ℕ) (edges : List Edge') → get states.new k ≡ Some edges → get states.old k ≡ Some edges }
 {
-    if key != last && !is_noted(noted, key) {
-        states.try_remove(key);
+    if key == last {
+        return;
     }
+    if is_noted(noted, key) {
+        return;
+    }
+    states.try_remove(key);
 }
 
 // Frees the states that aren't noted, but for the last.

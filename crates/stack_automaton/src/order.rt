@@ -119,12 +119,22 @@ fn add_in_order(
     release_all(order, open, above)
 }
 
+// The places in order, of which the same is told.
+fn places_in_order(
+    alloc: Global,
+    open: &mut [usize],
+    above: &mut [Vec<usize>],
+    links: &Links,
+) -> Result<Vec<usize>, OutOfMemory> {
+    let mut order = Vec::new(alloc);
+    add_in_order(&mut order, open, above, links)?;
+    Ok(order)
+}
+
 // The places of the entered functions from which no cycle of calls is reached, each after those of the
 // functions to which its calls lead. Each call is gone along twice.
 pub fn order(alloc: Global, links: &Links) -> Result<Vec<usize>, OutOfMemory> {
     let mut open = vec![in alloc; 0; links.len()]?;
     let mut above = lists(alloc, links.len())?;
-    let mut order = Vec::new(alloc);
-    add_in_order(&mut order, &mut open, &mut above, links)?;
-    Ok(order)
+    places_in_order(alloc, &mut open, &mut above, links)
 }
