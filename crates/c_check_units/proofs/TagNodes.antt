@@ -1,8 +1,10 @@
 -- The tags in a node with lists, boxes or optional parts in it.
-use Rattle.std.proofs.Common.{◌≡◌, Bool, ◌++◌, Option, Some, None, Vec, Global, ap, ◌∙◌, append-nil}
+use Rattle.std.proofs.Common.{◌≡◌, ◌⊎◌, inl, inr, ℕ, Bool, ◌++◌, Option, Some, None, Vec, Global, ap, ◌∙◌, append-nil}
 use Rattle.std.specs.Prelude.{Box}
 use Rattle.c_syntax.specs.declared.tree.Expr.{Expr as ExprTree}
-use Rattle.c_syntax.specs.declared.tree.ExprKind.TheVariants.{Comma, Call}
+use Rattle.c_syntax.specs.declared.tree.ExprKind.{ExprKind}
+use Rattle.c_syntax.specs.declared.tree.ExprKind.TheVariants.{Comma, Call, Member, Arrow, PostInc, PostDec, PreInc, PreDec, SizeofExpr, Unary, Index, And, Or, Binary, Assign}
+use Rattle.c_syntax.specs.declared.tree.Ident.{Ident as Named}
 use Rattle.c_syntax.specs.declared.tree.Param.{Param as ParamTree}
 use Rattle.c_syntax.specs.declared.tree.Declarator.{Declarator as DeclaratorTree}
 use Rattle.c_syntax.specs.declared.tree.DeclaratorKind.TheVariants.{Pointer, Array, Function}
@@ -26,6 +28,32 @@ of_comma e v is = ap (λ k. tags_of_expr (expr_at e.at k)) is ∙ ap tags_of_exp
 
 pub of_call : (e : ExprTree) (d : Box ExprTree Global) (v : Vec ExprTree Global) → e.kind ≡ Call d v → tags_of_expr (expr_of e) ≡ tags_of_expr (expr_of d.value) ++ tags_of_exprs (exprs_of v.items)
 of_call e d v is = ap (λ k. tags_of_expr (expr_at e.at k)) is ∙ ap tags_of_expr (call_is e.at d v)
+
+of_kind : (e : ExprTree) (k : ExprKind) → e.kind ≡ k → tags_of_expr (expr_of e) ≡ tags_of_expr (expr_at e.at k)
+of_kind e k is = ap (λ kind. tags_of_expr (expr_at e.at kind)) is
+
+-- The forms with one operand.
+pub of_one : (e : ExprTree) (a : Box ExprTree Global)
+    → ((x : Named) × (e.kind ≡ Member a x)) ⊎ (((x : Named) × (e.kind ≡ Arrow a x)) ⊎ ((e.kind ≡ PostInc a) ⊎ ((e.kind ≡ PostDec a) ⊎ ((e.kind ≡ PreInc a) ⊎ ((e.kind ≡ PreDec a) ⊎ ((e.kind ≡ SizeofExpr a) ⊎ ((op : ℕ) × (e.kind ≡ Unary op a))))))))
+    → tags_of_expr (expr_of e) ≡ tags_of_expr (expr_of a.value)
+of_one e a (inl h) = of_kind e (Member a h.0) h.1
+of_one e a (inr (inl h)) = of_kind e (Arrow a h.0) h.1
+of_one e a (inr (inr (inl is))) = of_kind e (PostInc a) is
+of_one e a (inr (inr (inr (inl is)))) = of_kind e (PostDec a) is
+of_one e a (inr (inr (inr (inr (inl is))))) = of_kind e (PreInc a) is
+of_one e a (inr (inr (inr (inr (inr (inl is)))))) = of_kind e (PreDec a) is
+of_one e a (inr (inr (inr (inr (inr (inr (inl is))))))) = of_kind e (SizeofExpr a) is
+of_one e a (inr (inr (inr (inr (inr (inr (inr h))))))) = of_kind e (Unary h.0 a) h.1
+
+-- The forms with two operands.
+pub of_two : (e : ExprTree) (a b : Box ExprTree Global)
+    → (e.kind ≡ Index a b) ⊎ ((e.kind ≡ And a b) ⊎ ((e.kind ≡ Or a b) ⊎ (((op : ℕ) × (e.kind ≡ Binary op a b)) ⊎ ((op : ℕ) × (e.kind ≡ Assign op a b)))))
+    → tags_of_expr (expr_of e) ≡ tags_of_expr (expr_of a.value) ++ tags_of_expr (expr_of b.value)
+of_two e a b (inl is) = of_kind e (Index a b) is
+of_two e a b (inr (inl is)) = of_kind e (And a b) is
+of_two e a b (inr (inr (inl is))) = of_kind e (Or a b) is
+of_two e a b (inr (inr (inr (inl h)))) = of_kind e (Binary h.0 a b) h.1
+of_two e a b (inr (inr (inr (inr h)))) = of_kind e (Assign h.0 a b) h.1
 
 pub of_pointer : (d : DeclaratorTree) (i : Option (Box DeclaratorTree Global)) → d.kind ≡ Pointer i → tags_of_declarator (declarator_of d) ≡ tags_of_declarator (declarator_behind i)
 of_pointer d i is = ap (λ k. tags_of_declarator (declarator_at d.at k)) is ∙ ap tags_of_declarator (pointer_is d.at i)

@@ -34,10 +34,7 @@ fn add_expr<'t>(into: &mut Vec<&'t [u8]>, e: &'t Expr) -> Result<(), OutOfMemory
     ensures { OnOk result (seen into.new.items ≡ seen into.old.items ++ tags_of_expr (expr_of e.now)) }
 {
     match &e.kind {
-        ExprKind::Name(_) => Ok(()),
-        ExprKind::Int { .. } => Ok(()),
-        ExprKind::Char(_) => Ok(()),
-        ExprKind::Str(_) => Ok(()),
+        ExprKind::Name(_) | ExprKind::Int { .. } | ExprKind::Char(_) | ExprKind::Str(_) => Ok(()),
         ExprKind::Comma(es) => add_exprs(into, es),
         ExprKind::SizeofType(n) => add_type(into, n),
         ExprKind::Cast(n, a) => {
@@ -48,31 +45,19 @@ fn add_expr<'t>(into: &mut Vec<&'t [u8]>, e: &'t Expr) -> Result<(), OutOfMemory
             add_expr(into, d)?;
             add_exprs(into, es)
         }
-        ExprKind::Member(a, _) => add_expr(into, a),
-        ExprKind::Arrow(a, _) => add_expr(into, a),
-        ExprKind::PostInc(a) => add_expr(into, a),
-        ExprKind::PostDec(a) => add_expr(into, a),
-        ExprKind::PreInc(a) => add_expr(into, a),
-        ExprKind::PreDec(a) => add_expr(into, a),
-        ExprKind::SizeofExpr(a) => add_expr(into, a),
-        ExprKind::Unary(_, a) => add_expr(into, a),
-        ExprKind::Index(a, b) => {
-            add_expr(into, a)?;
-            add_expr(into, b)
-        }
-        ExprKind::And(a, b) => {
-            add_expr(into, a)?;
-            add_expr(into, b)
-        }
-        ExprKind::Or(a, b) => {
-            add_expr(into, a)?;
-            add_expr(into, b)
-        }
-        ExprKind::Binary(_, a, b) => {
-            add_expr(into, a)?;
-            add_expr(into, b)
-        }
-        ExprKind::Assign(_, a, b) => {
+        ExprKind::Member(a, _)
+        | ExprKind::Arrow(a, _)
+        | ExprKind::PostInc(a)
+        | ExprKind::PostDec(a)
+        | ExprKind::PreInc(a)
+        | ExprKind::PreDec(a)
+        | ExprKind::SizeofExpr(a)
+        | ExprKind::Unary(_, a) => add_expr(into, a),
+        ExprKind::Index(a, b)
+        | ExprKind::And(a, b)
+        | ExprKind::Or(a, b)
+        | ExprKind::Binary(_, a, b)
+        | ExprKind::Assign(_, a, b) => {
             add_expr(into, a)?;
             add_expr(into, b)
         }
@@ -309,8 +294,8 @@ fn add_statement<'t>(into: &mut Vec<&'t [u8]>, aside: bool, s: &'t Stmt) -> Resu
     ensures { OnOk result (seen into.new.items ≡ seen into.old.items ++ tags_of_stmt aside (stmt_of s.now)) }
 {
     match &s.kind {
+        StmtKind::Empty | StmtKind::Break | StmtKind::Continue => Ok(()),
         StmtKind::Block(items) => add_block(into, aside, items),
-        StmtKind::Empty => Ok(()),
         StmtKind::Expr(e) => add_expr(into, e),
         StmtKind::If { test, yes, no } => {
             add_expr(into, test)?;
@@ -343,8 +328,6 @@ fn add_statement<'t>(into: &mut Vec<&'t [u8]>, aside: bool, s: &'t Stmt) -> Resu
             add_expr(into, on)?;
             add_groups(into, aside, groups)
         }
-        StmtKind::Break => Ok(()),
-        StmtKind::Continue => Ok(()),
         StmtKind::Return(e) => add_maybe(into, e),
     }
 }

@@ -6,7 +6,7 @@ use Rattle.c_check_counts.specs.Seen.{seen}
 use Rattle.c_check_counts.proofs.Lists.{all_flat, on_same, then_on}
 use Rattle.c_check_units.specs.Held.{tags_of_param}
 use Rattle.c_check_units.proofs.TagLists.{exprs_flat, params_flat}
-use Rattle.c_check_units.proofs.TagNodes.{of_comma, of_call, of_function}
+use Rattle.c_check_units.proofs.TagNodes.{of_comma, of_call, of_one, of_two, of_function}
 use Rattle.c_check_units.proofs.tags.+tags_in.Goals as goal
 
 pub add_expr-returns-in-Comma : goal.add_expr-returns-in-Comma
@@ -20,6 +20,18 @@ add_expr-returns-in_ok-add_expr-in-Call t c =
     (c.in_ok-add_expr-in-Call.ensures ∙ ap (λ d. seen c.args.into.now.items ++ tags_of_expr (expr_of d)) c.deref-in-Call.ensures)
     (of_call c.args.e.now c.in-Call.d c.in-Call.es c.in-Call.is ∙ ap (λ es. tags_of_expr (expr_of c.in-Call.d.value) ++ tags_of_exprs (exprs_of es)) (sym c.deref-in-Call-2.ensures.value))
     c.add_exprs-in-Call.ensures
+
+pub add_expr-returns-in-Member : goal.add_expr-returns-in-Member
+add_expr-returns-in-Member t c =
+    on_same c.add_expr-in-Member.result (seen c.args.into.now.items) (seen c.add_expr-in-Member.new.into.items) (tags_of_expr (expr_of c.args.e.now)) (tags_of_expr (expr_of c.deref-in-Member.result.now))
+    (of_one c.args.e.now c.in-Member.a c.in-Member.is ∙ ap (λ a. tags_of_expr (expr_of a)) (sym c.deref-in-Member.ensures)) c.add_expr-in-Member.ensures
+
+pub add_expr-returns-in_ok-add_expr-in-Index : goal.add_expr-returns-in_ok-add_expr-in-Index
+add_expr-returns-in_ok-add_expr-in-Index t c =
+    then_on c.add_expr-in-Index-2.result (seen c.args.into.now.items) (seen c.add_expr-in-Index.new.into.items) (seen c.add_expr-in-Index-2.new.into.items) (tags_of_expr (expr_of c.in-Index.a.value)) (tags_of_expr (expr_of c.deref-in-Index-2.result.now)) (tags_of_expr (expr_of c.args.e.now))
+    (c.in_ok-add_expr-in-Index.ensures ∙ ap (λ a. seen c.args.into.now.items ++ tags_of_expr (expr_of a)) c.deref-in-Index.ensures)
+    (of_two c.args.e.now c.in-Index.a c.in-Index.b c.in-Index.is ∙ ap (λ b. tags_of_expr (expr_of c.in-Index.a.value) ++ tags_of_expr (expr_of b)) (sym c.deref-in-Index-2.ensures))
+    c.add_expr-in-Index-2.ensures
 
 pub add_declarator-returns-in_ok-add_inner-in-Function : goal.add_declarator-returns-in_ok-add_inner-in-Function
 add_declarator-returns-in_ok-add_inner-in-Function t c =
