@@ -28,13 +28,6 @@ node_deep_declarator h (inl w) q t p u = moved_declarator w.1 (omega (arith, h, 
 node_deep_declarator h (inr w) q t p (inl z) = absurd (w.0 z)
 node_deep_declarator h (inr w) q t p (inr u) = moved_declarator w.1 h q u
 
--- a node with none inside
-pub leaf_deep : {at : ℕ} {e x : Expr} {d : Depth} → d.height ≡ 1 → d.deepest ≡ at → e ≡ x → at ≡ place_of x → InExpr d.deepest d.height e
-leaf_deep h w q p = moved w h q (expr_here p)
-
-pub leaf_deep_declarator : {at : ℕ} {e x : Declarator} {d : Depth} → d.height ≡ 1 → d.deepest ≡ at → e ≡ x → IsThere x → at ≡ place_of_declarator x → InDeclarator d.deepest d.height e
-leaf_deep_declarator h w q t p = moved_declarator w h q (declarator_here t p)
-
 -- two of them side by side
 
 pub beside_expr : {x : Expr} {a b d : Depth} → IsDeeper a b d → (a.height ≡ 0) ⊎ InExpr a.deepest (suc a.height) x → (b.height ≡ 0) ⊎ InExpr b.deepest (suc b.height) x → (d.height ≡ 0) ⊎ InExpr d.deepest (suc d.height) x

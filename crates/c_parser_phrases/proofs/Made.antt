@@ -1,6 +1,6 @@
 -- What a reader of an expression or a declarator answers at each of its ends, from what the readers that it calls answered.
 use Rattle.std.proofs.Common.{◌≡◌, ◌<◌, ◌≤◌, ◌+◌, ◌-◌, ℕ, max, zero, suc, List, [], ◌∷◌, ◌++◌, drop, length, sym, ap, ◌∙◌, subst, arith}
-use Rattle.std.specs.Prelude.{Some, None}
+use Rattle.std.specs.Prelude.{Some, None, Result, Ok, Err, OnOk}
 use Rattle.c_lexer.specs.declared.token.Token.{Token}
 use Rattle.c_lexer.specs.declared.keyword.TheConstants.{SIZEOF}
 use Rattle.c_lexer.specs.declared.punctuator.TheConstants.{LEFT_PARENTHESIS, RIGHT_PARENTHESIS, QUESTION, COLON, COMMA}
@@ -15,6 +15,10 @@ use Rattle.c_syntax_printing.specs.Ranks.{rank, Stops}
 use Rattle.c_syntax.specs.Limits.{height, height_of_exprs}
 use Rattle.c_parser_phrases.specs.declared.depth.MeasuredExpr.{MeasuredExpr}
 use Rattle.c_parser_phrases.specs.declared.room.Room.{Room}
+use Rattle.c_parser_phrases.specs.declared.error.PhraseError.{PhraseError}
+use Rattle.c_syntax_printing.specs.Phrases.{Bound}
+use Rattle.c_parser_phrases.specs.Reading.{ParsesTree, LacksExpr, OpensExpr}
+use Rattle.c_parser_phrases.proofs.Raising.{raised}
 use Rattle.c_parser_phrases.specs.declared.looking.Operator.{Operator}
 use Rattle.c_parser_phrases.specs.Making.{tree_of}
 use Rattle.c_parser_phrases.specs.Phrases.{HasRead}
@@ -101,13 +105,13 @@ cast_made {d} {i = i} {j = j} {z = z} q o p h r n u s v =
 pub no_prefixed : {d : ℕ} {e : Expr} {i j : List Token} → Stands d postfix_level e i j → Stands d unary_level e i j
 no_prefixed s = (no_prefix s.0, s.1)
 
-pub sizeof_made :
-    {d at : ℕ} {w : Expr} {i k m : List Token}
-    → at ≡ place i → IsAtKeyword SIZEOF i → k ≡ drop 1 i → ((t : Token) → IsKeyword SIZEOF t → at ≡ t.from → Stands d unary_level w (t ∷ k) m)
-    → Stands d unary_level w i m
-sizeof_made {d} {w = w} {i = i} {k = k} {m = m} p h r f =
-    let t = taken_word _ i k h r in
-    let P : List Token → Type 0 = λ z. Stands d unary_level w z m in
+pub sizeof_ends :
+    (room : Room) {at : ℕ} (i : List Token) {k : List Token} (m : List Token) (r : Result MeasuredExpr PhraseError)
+    → at ≡ place i → IsAtKeyword SIZEOF i → k ≡ drop 1 i → ((t : Token) → IsKeyword SIZEOF t → at ≡ t.from → ParsesTree room unary_level r (t ∷ k) m)
+    → ParsesTree room unary_level r i m
+sizeof_ends room i {k = k} m r p h q f =
+    let t = taken_word _ i k h q in
+    let P : List Token → Type 0 = λ z. ParsesTree room unary_level r z m in
     subst P (sym t.2) (f t.0 t.1 (p ∙ ap place t.2))
 
 pub step_made :
@@ -198,3 +202,26 @@ pub expression_has :
 expression_has {room} {l} {i} {j} m e s f h q =
     let P : ExprTree → Type 0 = λ y. HasRead room l (expr_of y) i j in
     subst P (sym q) (record { reads = s.0; nested = omega (arith, h, m.exact); stops = s.1; shorter = f })
+
+-- what a reader answers that returns what another one answers
+
+pub tree_raised :
+    {room : Room} {l k : Level} {i j : List Token} (r : Result MeasuredExpr PhraseError) → ParsesTree room l r i j
+    → ((e : Expr) → Stands room.pairs l e i j → Stands room.pairs k e i j)
+    → ((b : Bound) (q : List Token) → LacksExpr l b i q → LacksExpr k b i q)
+    → ((at : ℕ) (q : List Token) → OpensExpr l at room.pairs room.nodes i q → OpensExpr k at room.pairs room.nodes i q)
+    → ParsesTree room k r i j
+tree_raised (Ok m) h f g o = f (tree_of m) h
+tree_raised {l = l} {k} (Err e) h f g o = raised {Q = LacksExpr l} {P = LacksExpr k} {O = OpensExpr l} {U = OpensExpr k} h g o
+
+pub shorter_before : {T E : Type 0} (a : ℕ) {b c : ℕ} (r : Result T E) → OnOk r (a ≤ b) → b < c → OnOk r (a < c)
+shorter_before a (Ok x) h l = omega (arith, h, l)
+shorter_before a (Err e) h l = tt
+
+pub shorter_after : {T E : Type 0} (a : ℕ) {b c : ℕ} (r : Result T E) → OnOk r (a < b) → b ≤ c → OnOk r (a < c)
+shorter_after a (Ok x) h l = omega (arith, h, l)
+shorter_after a (Err e) h l = tt
+
+pub short_before : {T E : Type 0} (a : ℕ) {b c : ℕ} (r : Result T E) → OnOk r (a ≤ b) → b ≤ c → OnOk r (a ≤ c)
+short_before a (Ok x) h l = omega (arith, h, l)
+short_before a (Err e) h l = tt

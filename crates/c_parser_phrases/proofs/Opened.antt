@@ -160,9 +160,6 @@ prefix_some qv.Sizeof (t ∷ i) h = omega arith
 prefix_some (qv.Step s) i h = some_is h.2
 prefix_some (qv.Operator code) i h = some_is h.2
 
-pub moved_unary_open : {at p n : ℕ} {i j r : List Token} → i ≡ j → Opens (DeepExpr at p n unary_level) j r → Opens (DeepExpr at p n unary_level) i r
-moved_unary_open q o = moved_open q o
-
 pub step_operand_opens : {at p n : ℕ} {i k r : List Token} (s : Step) → StandsStep (Some s) i → k ≡ drop 1 i → Opens (DeepExpr at p n unary_level) k r → Opens (DeepExpr at p (suc n) unary_level) i r
 step_operand_opens s h e o = moved_open (taken h.2 e) (step_opens (step_of s) h.3 o)
 

@@ -218,9 +218,6 @@ prefix_is i q h = subst (λ z. StandsPrefix (Some z) i) q h
 pub prefix_deep : {pairs nodes : ℕ} (x : Before) {i : List Token} → StandsPrefix (Some x) i → nodes ≡ 0 → LacksExpr unary_level (within pairs nodes) i i
 prefix_deep x {i} h q = record { fails = no_nodes unary_level i q; past = prefix_past x h }
 
-pub moved_unary : {i j : List Token} → i ≡ j → (b : Bound) (r : List Token) → LacksExpr unary_level b j r → LacksExpr unary_level b i r
-moved_unary q b r f = record { fails = fails_at q f.fails; past = subst (λ z. Past z r) (sym q) f.past }
-
 step_no_sizeof : (s : Step) → step_of s ≡ sizeof → ⊥
 step_no_sizeof pv.Increment e = let q : pre_increment ≡ sizeof = e in cc
 step_no_sizeof pv.Decrement e = let q : pre_decrement ≡ sizeof = e in cc

@@ -1,15 +1,24 @@
--- Nodes with a list: as the terms that they are seen as.
-use Rattle.std.proofs.Common.{◌≡◌, ℕ, suc, max, sym, Option, Some, None, Vec, Global, refl, ap, ◌∙◌}
-use Rattle.std.specs.Prelude.{Box}
+-- Nodes: as the terms that they are seen as, and what is said of them where they are made.
+use Rattle.std.proofs.Common.{◌≡◌, ℕ, suc, max, sym, subst, Option, Some, None, Vec, Global, refl, ap, ◌∙◌}
+use Rattle.std.specs.Prelude.{Box, Result, IfOk}
 use Rattle.c_syntax.specs.declared.tree.Expr.{Expr as Tree}
 use Rattle.c_syntax.specs.declared.tree.Param.{Param as ParamTree}
 use Rattle.c_syntax.specs.declared.tree.Declarator.{Declarator as DeclaratorTree}
 use Rattle.c_syntax.specs.declared.tree.ExprKind.TheVariants.{Comma, Call}
+use Rattle.c_syntax.specs.declared.tree.DeclaratorKind.{DeclaratorKind, Name, Pointer', Array', Function'}
 use Rattle.c_syntax.specs.declared.tree.DeclaratorKind.TheVariants.{Function, Pointer, Array}
 use Rattle.c_syntax.specs.Tree.{Expr, Exprs, comma, call, Declarator, Params, function, pointer, array}
+use Rattle.c_syntax.specs.Grammar.{IsThere}
 use Rattle.c_syntax.specs.Limits.{height, height_of_exprs, height_of_declarator, height_of_params}
 use Rattle.c_syntax.specs.View.{params_of_row, expr_at, expr_of, declarator_at}
 use Rattle.c_syntax.specs.Writes.{exprs_of, params_of, declarator_behind, expr_behind}
+use Rattle.c_syntax_printing.specs.Nodes.{place_of_declarator}
+use Rattle.dm_base.specs.declared.memory.OutOfMemory.{OutOfMemory}
+use Rattle.c_parser_phrases.specs.declared.depth.Depth.{Depth}
+use Rattle.c_parser_phrases.specs.declared.depth.MeasuredExpr.{MeasuredExpr}
+use Rattle.c_parser_phrases.specs.declared.depth.MeasuredDeclarator.{MeasuredDeclarator}
+use Rattle.c_parser_phrases.specs.Inside.{IsInside, IsInsideDeclarator}
+use Rattle.c_parser_phrases.specs.Making.{Makes, MakesDeclarator}
 use Rattle.c_syntax.proofs.HeightLemmas.{both}
 use Rattle.c_syntax.proofs.Rows.{inner_is, params_row_in, params_in, exprs_in}
 
@@ -45,3 +54,37 @@ array_is at None None = refl
 array_is at None (Some e) = refl
 array_is at (Some b) None = refl
 array_is at (Some b) (Some e) = refl
+
+-- each kind makes a declarator, at the place
+
+pub kind_there : (at : ℕ) (kind : DeclaratorKind) → IsThere (declarator_at at kind)
+kind_there at (Name n) = tt
+kind_there at (Pointer' held) = tt
+kind_there at (Array' held size) = tt
+kind_there at (Function' held shape row) = tt
+
+pub place_is_declarator : (at : ℕ) (kind : DeclaratorKind) → at ≡ place_of_declarator (declarator_at at kind)
+place_is_declarator at (Name n) = refl
+place_is_declarator at (Pointer' held) = refl
+place_is_declarator at (Array' held size) = refl
+place_is_declarator at (Function' held shape row) = refl
+
+-- what was made, said of the same node and the same depth
+
+pub made_as : {x y : Expr} (r : Result MeasuredExpr OutOfMemory) → x ≡ y → Makes r x → Makes r y
+made_as r q h = subst (λ z. Makes r z) q h
+
+pub high_as : {m n : ℕ} (r : Result MeasuredExpr OutOfMemory) → m ≡ n → IfOk r (λ w. w.depth.height ≡ suc m) → IfOk r (λ w. w.depth.height ≡ suc n)
+high_as r q h = subst (λ z. IfOk r (λ w. w.depth.height ≡ suc z)) q h
+
+pub inside_as : {x y : Expr} {d : Depth} → x ≡ y → IsInside d y → IsInside d x
+inside_as {d = d} q h = subst (λ z. IsInside d z) (sym q) h
+
+pub made_declarator_as : {x y : Declarator} (r : Result MeasuredDeclarator OutOfMemory) → x ≡ y → MakesDeclarator r x → MakesDeclarator r y
+made_declarator_as r q h = subst (λ z. MakesDeclarator r z) q h
+
+pub high_declarator_as : {m n : ℕ} (r : Result MeasuredDeclarator OutOfMemory) → m ≡ n → IfOk r (λ w. w.depth.height ≡ suc m) → IfOk r (λ w. w.depth.height ≡ suc n)
+high_declarator_as r q h = subst (λ z. IfOk r (λ w. w.depth.height ≡ suc z)) q h
+
+pub inside_declarator_as : {x y : Declarator} {d : Depth} → x ≡ y → IsInsideDeclarator d y → IsInsideDeclarator d x
+inside_declarator_as {d = d} q h = subst (λ z. IsInsideDeclarator d z) (sym q) h

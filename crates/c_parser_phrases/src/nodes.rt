@@ -3,11 +3,12 @@
 ghost use Rattle.std.specs.Prelude.{◌≡◌, ◌<◌, ◌↔◌, IsTrue, IfOk, suc, max};
 ghost use Rattle.c_syntax.specs.Tree.{comma, sizeof_type, cast, call, member, dot, arrow, postfix, post_increment, post_decrement, prefix, sizeof, unary, index, binary, assign, conditional, named, pointer, array, function, type_name, nothing, absent, there, void, Params, more_params};
 ghost use Rattle.c_syntax.specs.Tree.{no_exprs as no_expr, no_params as no_param};
-ghost use Rattle.c_syntax.specs.Limits.{height};
+ghost use Rattle.c_syntax.specs.Limits.{height, height_of_declarator};
 ghost use Rattle.c_syntax.specs.View.{ident_of, spec_of, expr_at, declarator_at, type_name_of, param_before};
 ghost use Rattle.c_parser_phrases.specs.Looking.{infix_of, step_of};
 ghost use Rattle.c_parser_phrases.specs.Deep.{IsDeep, AreDeep, IsDeepSize, IsDeepType, IsDeepDeclarator, AreDeepParams};
-ghost use Rattle.c_parser_phrases.specs.Making.{tree_of, trees_of, size_of, inner_of, list_of, Boxes, BoxesDeclarator, Makes, MakesDeclarator, IsStep, IsBetween, IsVoidAlone};
+ghost use Rattle.c_parser_phrases.specs.Inside.{IsInside, IsInsideDeclarator};
+ghost use Rattle.c_parser_phrases.specs.Making.{tree_of, trees_of, size_of, inner_of, list_of, Makes, MakesDeclarator, IsStep, IsBetween, IsVoidAlone};
 
 use crate::depth::{
     Depth, MeasuredDeclarator, MeasuredExpr, MeasuredExprs, MeasuredParam, MeasuredParams,
@@ -18,10 +19,23 @@ use c_syntax::{Declarator, DeclaratorKind, Expr, ExprKind, Ident, Param, Spec, T
 use dm_base::OutOfMemory;
 use std::alloc::Global;
 
-fn boxed(alloc: Global, at: u32, kind: ExprKind) -> Result<Box<Expr>, OutOfMemory>
-    ensures { Boxes result (expr_at at kind) }
+// The node at the place, around what has the depth.
+fn measured(
+    alloc: Global,
+    at: u32,
+    kind: ExprKind,
+    inside: Depth,
+) -> Result<MeasuredExpr, OutOfMemory>
+    requires low { inside.height < 4294967295 }
+    requires exact { suc (inside.height) ≡ height (expr_at at kind) }
+    ensures makes { Makes result (expr_at at kind) }
+    ensures height { IfOk result (λ m. m.depth.height ≡ suc (inside.height)) }
+    ensures deep { IsInside inside (expr_at at kind) → IfOk result (λ m. IsDeep m) }
 {
-    Ok(Box::new(alloc, Expr { at, kind })?)
+    Ok(MeasuredExpr {
+        tree: Box::new(alloc, Expr { at, kind })?,
+        depth: inside.enclosed(at),
+    })
 }
 
 pub fn comma_node(alloc: Global, at: u32, list: MeasuredExprs) -> Result<MeasuredExpr, OutOfMemory>
@@ -30,10 +44,7 @@ pub fn comma_node(alloc: Global, at: u32, list: MeasuredExprs) -> Result<Measure
     ensures height { IfOk result (λ m. m.depth.height ≡ suc (list.depth.height)) }
     ensures deep { AreDeep list → IfOk result (λ m. IsDeep m) }
 {
-    Ok(MeasuredExpr {
-        tree: boxed(alloc, at, ExprKind::Comma(list.trees))?,
-        depth: list.depth.enclosed(at),
-    })
+    measured(alloc, at, ExprKind::Comma(list.trees), list.depth)
 }
 
 pub fn sizeof_type_node(
@@ -46,10 +57,7 @@ pub fn sizeof_type_node(
     ensures height { IfOk result (λ m. m.depth.height ≡ suc (target.depth.height)) }
     ensures deep { IsDeepType target → IfOk result (λ m. IsDeep m) }
 {
-    Ok(MeasuredExpr {
-        tree: boxed(alloc, at, ExprKind::SizeofType(target.name))?,
-        depth: target.depth.enclosed(at),
-    })
+    measured(alloc, at, ExprKind::SizeofType(target.name), target.depth)
 }
 
 pub fn cast_node(
@@ -64,10 +72,12 @@ pub fn cast_node(
     ensures height { IfOk result (λ m. m.depth.height ≡ suc (max target.depth.height a.depth.height)) }
     ensures deep { IsDeepType target → IsDeep a → IfOk result (λ m. IsDeep m) }
 {
-    Ok(MeasuredExpr {
-        tree: boxed(alloc, at, ExprKind::Cast(target.name, a.tree))?,
-        depth: target.depth.beside(a.depth).enclosed(at),
-    })
+    measured(
+        alloc,
+        at,
+        ExprKind::Cast(target.name, a.tree),
+        target.depth.beside(a.depth),
+    )
 }
 
 pub fn call_node(
@@ -82,10 +92,12 @@ pub fn call_node(
     ensures height { IfOk result (λ m. m.depth.height ≡ suc (max a.depth.height list.depth.height)) }
     ensures deep { IsDeep a → AreDeep list → IfOk result (λ m. IsDeep m) }
 {
-    Ok(MeasuredExpr {
-        tree: boxed(alloc, at, ExprKind::Call(a.tree, list.trees))?,
-        depth: a.depth.beside(list.depth).enclosed(at),
-    })
+    measured(
+        alloc,
+        at,
+        ExprKind::Call(a.tree, list.trees),
+        a.depth.beside(list.depth),
+    )
 }
 
 pub fn member_node(
@@ -99,10 +111,7 @@ pub fn member_node(
     ensures height { IfOk result (λ m. m.depth.height ≡ suc (a.depth.height)) }
     ensures deep { IsDeep a → IfOk result (λ m. IsDeep m) }
 {
-    Ok(MeasuredExpr {
-        tree: boxed(alloc, at, ExprKind::Member(a.tree, name))?,
-        depth: a.depth.enclosed(at),
-    })
+    measured(alloc, at, ExprKind::Member(a.tree, name), a.depth)
 }
 
 pub fn arrow_node(
@@ -116,10 +125,7 @@ pub fn arrow_node(
     ensures height { IfOk result (λ m. m.depth.height ≡ suc (a.depth.height)) }
     ensures deep { IsDeep a → IfOk result (λ m. IsDeep m) }
 {
-    Ok(MeasuredExpr {
-        tree: boxed(alloc, at, ExprKind::Arrow(a.tree, name))?,
-        depth: a.depth.enclosed(at),
-    })
+    measured(alloc, at, ExprKind::Arrow(a.tree, name), a.depth)
 }
 
 pub fn increased_node(alloc: Global, at: u32, a: MeasuredExpr) -> Result<MeasuredExpr, OutOfMemory>
@@ -128,10 +134,7 @@ pub fn increased_node(alloc: Global, at: u32, a: MeasuredExpr) -> Result<Measure
     ensures height { IfOk result (λ m. m.depth.height ≡ suc (a.depth.height)) }
     ensures deep { IsDeep a → IfOk result (λ m. IsDeep m) }
 {
-    Ok(MeasuredExpr {
-        tree: boxed(alloc, at, ExprKind::PostInc(a.tree))?,
-        depth: a.depth.enclosed(at),
-    })
+    measured(alloc, at, ExprKind::PostInc(a.tree), a.depth)
 }
 
 pub fn decreased_node(alloc: Global, at: u32, a: MeasuredExpr) -> Result<MeasuredExpr, OutOfMemory>
@@ -140,10 +143,7 @@ pub fn decreased_node(alloc: Global, at: u32, a: MeasuredExpr) -> Result<Measure
     ensures height { IfOk result (λ m. m.depth.height ≡ suc (a.depth.height)) }
     ensures deep { IsDeep a → IfOk result (λ m. IsDeep m) }
 {
-    Ok(MeasuredExpr {
-        tree: boxed(alloc, at, ExprKind::PostDec(a.tree))?,
-        depth: a.depth.enclosed(at),
-    })
+    measured(alloc, at, ExprKind::PostDec(a.tree), a.depth)
 }
 
 fn step_kind(step: Step, a: Box<Expr>) -> ExprKind
@@ -166,10 +166,7 @@ pub fn step_node(
     ensures height { IfOk result (λ m. m.depth.height ≡ suc (a.depth.height)) }
     ensures deep { IsDeep a → IfOk result (λ m. IsDeep m) }
 {
-    Ok(MeasuredExpr {
-        tree: boxed(alloc, at, step_kind(step, a.tree))?,
-        depth: a.depth.enclosed(at),
-    })
+    measured(alloc, at, step_kind(step, a.tree), a.depth)
 }
 
 pub fn sizeof_node(alloc: Global, at: u32, a: MeasuredExpr) -> Result<MeasuredExpr, OutOfMemory>
@@ -178,10 +175,7 @@ pub fn sizeof_node(alloc: Global, at: u32, a: MeasuredExpr) -> Result<MeasuredEx
     ensures height { IfOk result (λ m. m.depth.height ≡ suc (a.depth.height)) }
     ensures deep { IsDeep a → IfOk result (λ m. IsDeep m) }
 {
-    Ok(MeasuredExpr {
-        tree: boxed(alloc, at, ExprKind::SizeofExpr(a.tree))?,
-        depth: a.depth.enclosed(at),
-    })
+    measured(alloc, at, ExprKind::SizeofExpr(a.tree), a.depth)
 }
 
 pub fn unary_node(
@@ -195,10 +189,7 @@ pub fn unary_node(
     ensures height { IfOk result (λ m. m.depth.height ≡ suc (a.depth.height)) }
     ensures deep { IsDeep a → IfOk result (λ m. IsDeep m) }
 {
-    Ok(MeasuredExpr {
-        tree: boxed(alloc, at, ExprKind::Unary(operator, a.tree))?,
-        depth: a.depth.enclosed(at),
-    })
+    measured(alloc, at, ExprKind::Unary(operator, a.tree), a.depth)
 }
 
 pub fn index_node(
@@ -213,10 +204,12 @@ pub fn index_node(
     ensures height { IfOk result (λ m. m.depth.height ≡ suc (max a.depth.height b.depth.height)) }
     ensures deep { IsDeep a → IsDeep b → IfOk result (λ m. IsDeep m) }
 {
-    Ok(MeasuredExpr {
-        tree: boxed(alloc, at, ExprKind::Index(a.tree, b.tree))?,
-        depth: a.depth.beside(b.depth).enclosed(at),
-    })
+    measured(
+        alloc,
+        at,
+        ExprKind::Index(a.tree, b.tree),
+        a.depth.beside(b.depth),
+    )
 }
 
 fn binary_kind(between: Infix, a: Box<Expr>, b: Box<Expr>) -> ExprKind
@@ -242,10 +235,12 @@ pub fn binary_node(
     ensures height { IfOk result (λ m. m.depth.height ≡ suc (max a.depth.height b.depth.height)) }
     ensures deep { IsDeep a → IsDeep b → IfOk result (λ m. IsDeep m) }
 {
-    Ok(MeasuredExpr {
-        tree: boxed(alloc, at, binary_kind(between, a.tree, b.tree))?,
-        depth: a.depth.beside(b.depth).enclosed(at),
-    })
+    measured(
+        alloc,
+        at,
+        binary_kind(between, a.tree, b.tree),
+        a.depth.beside(b.depth),
+    )
 }
 
 pub fn assign_node(
@@ -261,10 +256,12 @@ pub fn assign_node(
     ensures height { IfOk result (λ m. m.depth.height ≡ suc (max a.depth.height b.depth.height)) }
     ensures deep { IsDeep a → IsDeep b → IfOk result (λ m. IsDeep m) }
 {
-    Ok(MeasuredExpr {
-        tree: boxed(alloc, at, ExprKind::Assign(operator, a.tree, b.tree))?,
-        depth: a.depth.beside(b.depth).enclosed(at),
-    })
+    measured(
+        alloc,
+        at,
+        ExprKind::Assign(operator, a.tree, b.tree),
+        a.depth.beside(b.depth),
+    )
 }
 
 pub fn conditional_node(
@@ -281,10 +278,12 @@ pub fn conditional_node(
     ensures height { IfOk result (λ m. m.depth.height ≡ suc (max a.depth.height (max b.depth.height c.depth.height))) }
     ensures deep { IsDeep a → IsDeep b → IsDeep c → IfOk result (λ m. IsDeep m) }
 {
-    Ok(MeasuredExpr {
-        tree: boxed(alloc, at, ExprKind::Cond(a.tree, b.tree, c.tree))?,
-        depth: a.depth.beside(b.depth.beside(c.depth)).enclosed(at),
-    })
+    measured(
+        alloc,
+        at,
+        ExprKind::Cond(a.tree, b.tree, c.tree),
+        a.depth.beside(b.depth.beside(c.depth)),
+    )
 }
 
 // The name of a type.
@@ -315,14 +314,23 @@ pub fn type_node(spec: Spec, inner: MeasuredDeclarator, at: u32) -> MeasuredType
     }
 }
 
-fn boxed_declarator(
+// The node at the place, around what has the depth.
+fn measured_declarator(
     alloc: Global,
     at: u32,
     kind: DeclaratorKind,
-) -> Result<Box<Declarator>, OutOfMemory>
-    ensures { BoxesDeclarator result (declarator_at at kind) }
+    inside: Depth,
+) -> Result<MeasuredDeclarator, OutOfMemory>
+    requires low { inside.height < 4294967295 }
+    requires exact { suc (inside.height) ≡ height_of_declarator (declarator_at at kind) }
+    ensures makes { MakesDeclarator result (declarator_at at kind) }
+    ensures height { IfOk result (λ m. m.depth.height ≡ suc (inside.height)) }
+    ensures deep { IsInsideDeclarator inside (declarator_at at kind) → IfOk result (λ m. IsDeepDeclarator m) }
 {
-    Ok(Box::new(alloc, Declarator { at, kind })?)
+    Ok(MeasuredDeclarator {
+        tree: Some(Box::new(alloc, Declarator { at, kind })?),
+        depth: inside.enclosed(at),
+    })
 }
 
 // No declarator, before the place.
@@ -341,10 +349,7 @@ pub fn name_node(alloc: Global, at: u32, name: Ident) -> Result<MeasuredDeclarat
     ensures height { IfOk result (λ m. m.depth.height ≡ 1) }
     ensures deep { IfOk result (λ m. IsDeepDeclarator m) }
 {
-    Ok(MeasuredDeclarator {
-        tree: Some(boxed_declarator(alloc, at, DeclaratorKind::Name(name))?),
-        depth: Depth::leaf(at),
-    })
+    measured_declarator(alloc, at, DeclaratorKind::Name(name), Depth::none(at))
 }
 
 pub fn pointer_node(
@@ -357,10 +362,7 @@ pub fn pointer_node(
     ensures height { IfOk result (λ m. m.depth.height ≡ suc (a.depth.height)) }
     ensures deep { IsDeepDeclarator a → IfOk result (λ m. IsDeepDeclarator m) }
 {
-    Ok(MeasuredDeclarator {
-        tree: Some(boxed_declarator(alloc, at, DeclaratorKind::Pointer(a.tree))?),
-        depth: a.depth.enclosed(at),
-    })
+    measured_declarator(alloc, at, DeclaratorKind::Pointer(a.tree), a.depth)
 }
 
 pub fn array_node(
@@ -375,17 +377,11 @@ pub fn array_node(
     ensures height { IfOk result (λ m. m.depth.height ≡ suc (max a.depth.height size.depth.height)) }
     ensures deep { IsDeepDeclarator a → IsDeepSize size → IfOk result (λ m. IsDeepDeclarator m) }
 {
-    Ok(MeasuredDeclarator {
-        tree: Some(boxed_declarator(
-            alloc,
-            at,
-            DeclaratorKind::Array {
-                inner: a.tree,
-                size: size.tree,
-            },
-        )?),
-        depth: a.depth.beside(size.depth).enclosed(at),
-    })
+    let kind = DeclaratorKind::Array {
+        inner: a.tree,
+        size: size.tree,
+    };
+    measured_declarator(alloc, at, kind, a.depth.beside(size.depth))
 }
 
 pub fn function_node(
@@ -400,17 +396,11 @@ pub fn function_node(
     ensures height { IfOk result (λ m. m.depth.height ≡ suc (max a.depth.height list.depth.height)) }
     ensures deep { IsDeepDeclarator a → AreDeepParams list → IfOk result (λ m. IsDeepDeclarator m) }
 {
-    Ok(MeasuredDeclarator {
-        tree: Some(boxed_declarator(
-            alloc,
-            at,
-            DeclaratorKind::Function {
-                inner: a.tree,
-                params: list.params,
-            },
-        )?),
-        depth: a.depth.beside(list.depth).enclosed(at),
-    })
+    let kind = DeclaratorKind::Function {
+        inner: a.tree,
+        params: list.params,
+    };
+    measured_declarator(alloc, at, kind, a.depth.beside(list.depth))
 }
 
 // A leaf of an expression, at the place.
@@ -420,10 +410,7 @@ pub fn leaf_node(alloc: Global, at: u32, kind: ExprKind) -> Result<MeasuredExpr,
     ensures height { IfOk result (λ m. m.depth.height ≡ 1) }
     ensures deep { IfOk result (λ m. IsDeep m) }
 {
-    Ok(MeasuredExpr {
-        tree: boxed(alloc, at, kind)?,
-        depth: Depth::leaf(at),
-    })
+    measured(alloc, at, kind, Depth::none(at))
 }
 
 // No arguments, before the place.

@@ -186,8 +186,7 @@ impl<'a> Cursor<'a> {
     {
         let at = self.place();
         let operand = self.cast_expression(alloc, room)?;
-        let whole = self.conditional_from(alloc, room, at, operand)?;
-        Ok(whole)
+        self.conditional_from(alloc, room, at, operand)
     }
 
     // A conditional expression, of which the first operand is read.
@@ -268,8 +267,7 @@ impl<'a> Cursor<'a> {
         ensures deep { IfOk result (λ m. IsDeep m) }
     {
         if !self.is_at_cast() {
-            let whole = self.unary_expression(alloc, room)?;
-            return Ok(whole);
+            return self.unary_expression(alloc, room);
         }
         let at = self.place();
         if room.nodes == 0 {
@@ -295,15 +293,13 @@ impl<'a> Cursor<'a> {
     {
         let at = self.place();
         let Some(prefix) = self.prefix() else {
-            let whole = self.postfix_expression(alloc, room)?;
-            return Ok(whole);
+            return self.postfix_expression(alloc, room);
         };
         if room.nodes == 0 {
             return Err(PhraseError::Nesting(at));
         }
         self.skip();
-        let whole = self.prefixed(alloc, room, at, prefix)?;
-        Ok(whole)
+        self.prefixed(alloc, room, at, prefix)
     }
 
     // What stands after a prefix operator.
@@ -322,10 +318,7 @@ impl<'a> Cursor<'a> {
         ensures deep { IfOk result (λ m. IsDeep m) }
     {
         match prefix {
-            Prefix::Sizeof => {
-                let whole = self.sizeof_expression(alloc, room, at)?;
-                Ok(whole)
-            }
+            Prefix::Sizeof => self.sizeof_expression(alloc, room, at),
             Prefix::Step(step) => {
                 let operand = self.unary_expression(alloc, room.in_node())?;
                 let whole = step_node(alloc, at, step, operand)?;
@@ -530,8 +523,7 @@ impl<'a> Cursor<'a> {
         let at = self.place();
         if !self.is_at(ASTERISK) {
             let core = self.core(alloc, room, form)?;
-            let whole = self.lengthened(alloc, room, at, core)?;
-            return Ok(whole);
+            return self.lengthened(alloc, room, at, core);
         }
         if room.nodes == 0 {
             return Err(PhraseError::Nesting(at));

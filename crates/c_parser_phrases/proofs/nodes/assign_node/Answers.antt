@@ -1,7 +1,11 @@
-use Rattle.std.proofs.Common.{refl, inr}
+use Rattle.std.proofs.Common.{inr}
 use Rattle.c_syntax_printing.specs.Nodes.{in_assigned, in_value}
-use Rattle.c_parser_phrases.proofs.Deepest.{node_deep, beside_expr}
+use Rattle.c_parser_phrases.proofs.Deepest.{beside_expr}
+use Rattle.c_parser_phrases.proofs.Rows.{high_as}
 use Rattle.c_parser_phrases.proofs.nodes.assign_node.Goals as goal
 
+pub returns-clause-height : goal.returns-clause-height
+returns-clause-height c = high_as c.measured.result c.beside.ensures.height c.measured.ensures.height
+
 pub returns-clause-deep : goal.returns-clause-deep
-returns-clause-deep c = λ d e. node_deep c.enclosed.ensures.height c.enclosed.ensures.around (c.in_ok-boxed.ensures) refl (beside_expr c.beside.ensures.deeper (inr (in_assigned d)) (inr (in_value e)))
+returns-clause-deep c = λ d e. c.measured.ensures.deep (beside_expr c.beside.ensures.deeper (inr (in_assigned d)) (inr (in_value e)))

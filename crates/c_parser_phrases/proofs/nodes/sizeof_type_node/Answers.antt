@@ -1,7 +1,6 @@
-use Rattle.std.proofs.Common.{refl}
 use Rattle.c_syntax_printing.specs.Nodes.{in_sizeof}
-use Rattle.c_parser_phrases.proofs.Deepest.{node_deep, part_type}
+use Rattle.c_parser_phrases.proofs.Deepest.{part_type}
 use Rattle.c_parser_phrases.proofs.nodes.sizeof_type_node.Goals as goal
 
 pub returns-clause-deep : goal.returns-clause-deep
-returns-clause-deep c = λ d. node_deep c.enclosed.ensures.height c.enclosed.ensures.around c.in_ok-boxed.ensures refl (part_type in_sizeof d)
+returns-clause-deep c = λ d. c.measured.ensures.deep (part_type in_sizeof d)

@@ -1,7 +1,10 @@
-use Rattle.std.proofs.Common.{refl, inr, ◌∙◌}
+use Rattle.std.proofs.Common.{inr}
 use Rattle.c_syntax_printing.specs.Nodes.{in_prefix}
-use Rattle.c_parser_phrases.proofs.Deepest.{node_deep}
+use Rattle.c_parser_phrases.proofs.Rows.{made_as, inside_as}
 use Rattle.c_parser_phrases.proofs.nodes.step_node.Goals as goal
 
+pub returns-clause-makes : goal.returns-clause-makes
+returns-clause-makes c = made_as c.measured.result (c.step_kind.ensures c.args.at) c.measured.ensures.makes
+
 pub returns-clause-deep : goal.returns-clause-deep
-returns-clause-deep c = λ d. node_deep c.enclosed.ensures.height c.enclosed.ensures.around (c.in_ok-boxed.ensures ∙ c.step_kind.ensures c.args.at) refl (inr (in_prefix d))
+returns-clause-deep c = λ d. c.measured.ensures.deep (inside_as (c.step_kind.ensures c.args.at) (inr (in_prefix d)))

@@ -8,7 +8,7 @@ use Rattle.c_parser_phrases.specs.Making.{inner_of, size_of, list_of}
 use Rattle.c_parser_phrases.proofs.Known.{not_there}
 use Rattle.c_parser_phrases.proofs.Exits.{over, paired, suits_made, suits_array, suits_function}
 use Rattle.c_parser_phrases.proofs.Adding.{index_adds, member_adds, step_adds, none_taken, some_taken, suffix_is, suffixes_read, array_adds, function_adds, lengthened_read, size_read, size_absent}
-use Rattle.c_parser_phrases.proofs.Made.{list_first, list_grown, list_ends, no_commas, comma_made, no_assigned, assign_made, no_chosen, choice_made, binary_first, binary_made, binary_end, uncast_made, cast_made, no_prefixed, sizeof_made, step_made, unary_made, sizeof_expression_made, sizeof_type_made, parentheses_made, type_made}
+use Rattle.c_parser_phrases.proofs.Made.{list_first, list_grown, list_ends, no_commas, comma_made, no_assigned, assign_made, no_chosen, choice_made, binary_first, binary_made, binary_end, uncast_made, cast_made, no_prefixed, sizeof_ends, tree_raised, shorter_before, shorter_after, short_before, step_made, unary_made, sizeof_expression_made, sizeof_type_made, parentheses_made, type_made}
 use Rattle.c_parser_phrases.proofs.Made.{first_height as exprs_first_height, grown_height as exprs_grown_height}
 use Rattle.c_parser_phrases.proofs.Declaring.{pointer_made, name_made, nothing_made, there_is, brackets_made, param_made, params_read, each_first, each_grown, some_first, some_grown, alone_read}
 use Rattle.c_parser_phrases.proofs.Declaring.{first_height as params_first_height, grown_height as params_grown_height}
@@ -18,14 +18,14 @@ use Rattle.c_syntax.specs.Grammar.{cast_level}
 use Rattle.c_syntax_printing.specs.Phrases.{any}
 use Rattle.c_syntax_printing.proofs.Combine.{fails_at}
 use Rattle.c_syntax_printing.proofs.LevelFails.{comma_first, assigned_operand_fails, value_fails, test_fails, first_operand}
-use Rattle.c_parser_phrases.proofs.Exits.{taken, taken_word, uncast, paired_type}
+use Rattle.c_parser_phrases.proofs.Exits.{taken, uncast, paired_type}
 use Rattle.c_parser_phrases.proofs.Starts.{star_there}
 use Rattle.c_parser_phrases.proofs.Deepest.{exprs_first_deep, exprs_grown_deep, params_first_deep, params_grown_deep, type_deep_at, param_deep_at}
 use Rattle.c_syntax_printing.proofs.ExprOpens.{postfix_opens, unary_opens, cast_opens, first_operand_opens, test_opens, value_opens, comma_first_opens, sizeof_operand_opens, index_opens, arguments_open}
-use Rattle.c_parser_phrases.proofs.Opened.{some_at, some_is, some_starts, some_cast, comma_rest_opens, comma_deep, rest_opens, rest_leads_open, assigned_deep, assigned_rest_opens, choice_deep, yes_part_opens, no_part_opens, operator_deep, right_opens, cast_deep, cast_name_opens, cast_part_opens, prefix_opens, prefix_some, moved_unary_open, step_operand_opens, unary_operand_opens, sizeof_name_opens, suffix_opens, suffix_deep, later_argument_opens, first_argument_opens, leaf_opens, leaf_some, pair_opens, inside_opens}
+use Rattle.c_parser_phrases.proofs.Opened.{some_at, some_is, some_starts, some_cast, comma_rest_opens, comma_deep, rest_opens, rest_leads_open, assigned_deep, assigned_rest_opens, choice_deep, yes_part_opens, no_part_opens, operator_deep, right_opens, cast_deep, cast_name_opens, cast_part_opens, prefix_opens, prefix_some, step_operand_opens, unary_operand_opens, sizeof_name_opens, suffix_opens, suffix_deep, later_argument_opens, first_argument_opens, leaf_opens, leaf_some, pair_opens, inside_opens}
 use Rattle.c_parser_phrases.proofs.OpenedDeclarators.{type_declarator_opens, param_declarator_opens, param_leads_open, later_param_leads_open, later_param_open, pointer_opens_here, pointer_inner_opens, name_opens, named_pair_opens, declarator_pair_opens, inside_declarator_opens, some_inside, parts_open, mark_opens, size_part_opens, params_part_opens}
 use Rattle.c_parser_phrases.proofs.Raising.{nested_at, no_memory, wrong_here, deep_at, raised, raised_in, raised_enclosed, raised_flat, not_at_word, ends_at, past_at, at_from}
-use Rattle.c_parser_phrases.proofs.Refusals.{comma_high, comma_rest, rest_fails, rest_leads, assigned_after, assigned_to_cast, assigned_high, assigned_rest, choice_high, yes_fails, colon_fails, no_fails, operator_high, right_first, right_fails, bare_cast, no_nodes, cast_type_fails, cast_unclosed, cast_operand_fails, bare_unary, prefix_deep, prefix_is, moved_unary, step_operand_fails, operand_fails, sizeof_operand_fails, sizeof_type_name_fails, sizeof_unclosed, sizeof_suffixed}
+use Rattle.c_parser_phrases.proofs.Refusals.{comma_high, comma_rest, rest_fails, rest_leads, assigned_after, assigned_to_cast, assigned_high, assigned_rest, choice_high, yes_fails, colon_fails, no_fails, operator_high, right_first, right_fails, bare_cast, no_nodes, cast_type_fails, cast_unclosed, cast_operand_fails, bare_unary, prefix_deep, prefix_is, step_operand_fails, operand_fails, sizeof_operand_fails, sizeof_type_name_fails, sizeof_unclosed, sizeof_suffixed}
 use Rattle.c_parser_phrases.proofs.Refusals.{bare_postfix, suffix_high, suffix_fails, string_fails, index_fails, index_unclosed, arguments_lead, member_fails, first_argument_fails, later_argument_fails, arguments_unclosed, leaf_deep, leaf_refused, leaf_strings, no_leaf, pair_wrong, pair_deep, inside_fails, inside_unclosed, inside_strings, parentheses_stand}
 use Rattle.c_parser_phrases.proofs.RefusalsOfDeclarators.{type_spec_fails, type_declarator_fails, param_spec_fails, param_declarator_fails, pointer_deep, pointer_inner_fails, name_wrong, name_deep, name_stands, named_there, none_is, opens_at, no_name_wrong, no_opening, bare_core, pair_deep_named, pair_deep_declarator, pair_wrong_declarator, inside_declarator_fails, nothing_wrong, declarator_unclosed}
 use Rattle.c_parser_phrases.proofs.RefusalsOfDeclarators.{read_so_far, part_fails, part_high, neither, size_part_fails, params_part_fails, size_expression_fails, size_unclosed, param_fails, param_leads, later_param_fails, later_param_leads, params_not_closed}
@@ -58,10 +58,10 @@ pub binary_from-returns-clause-parses : goal.binary_from-returns-clause-parses
 binary_from-returns-clause-parses t c = λ s p r z d. binary_end p (c.loop-operator.invariant.reads s p r z) c.in_default.ensures.stands
 
 pub cast_expression-returns-then-not-is_at_cast-clause-parses : goal.cast_expression-returns-then-not-is_at_cast-clause-parses
-cast_expression-returns-then-not-is_at_cast-clause-parses t c = uncast_made c.in_ok-whole.ensures.parses
+cast_expression-returns-then-not-is_at_cast-clause-parses t c = tree_raised c.unary_expression.result c.unary_expression.ensures.parses (λ e s. uncast_made s) (bare_cast (not_there c.is_at_cast.result c.if-not-is_at_cast.true c.is_at_cast.ensures.stands)) (λ at y o. cast_opens o)
 
 pub cast_expression-returns-clause-parses : goal.cast_expression-returns-clause-parses
-cast_expression-returns-clause-parses t c = cast_made c.in_node.ensures.pairs c.in_node-2.ensures.pairs c.place-at.ensures (c.is_at_cast.ensures.stands.0 c.if-not-is_at_cast.false) c.skip.ensures.skips c.in_ok-target.ensures.parses.0 c.if-not-take.ensures c.in_ok-operand.ensures.parses c.in_ok-whole-2.ensures.makes
+cast_expression-returns-clause-parses t c = cast_made c.in_node.ensures.pairs c.in_node-2.ensures.pairs c.place-at.ensures (c.is_at_cast.ensures.stands.0 c.if-not-is_at_cast.false) c.skip.ensures.skips c.in_ok-target.ensures.parses.0 c.if-not-take.ensures c.in_ok-operand.ensures.parses c.in_ok-whole.ensures.makes
 
 pub comma_expression-returns-then-not-is_at-clause-parses : goal.comma_expression-returns-then-not-is_at-clause-parses
 comma_expression-returns-then-not-is_at-clause-parses t c = no_commas c.in_ok-first.ensures.parses (not_there c.is_at.result c.if-not-is_at.true c.is_at.ensures.stands)
@@ -85,10 +85,13 @@ pub core-returns-clause-parses : goal.core-returns-clause-parses
 core-returns-clause-parses t c = λ ns. let m = brackets_made c.args.form c.in_pair.ensures.pairs (λ e. omega (arith, e, c.if-room-eq0-2.false)) (opens_at c.if-not-opens.ensures.stands) c.skip.ensures.skips c.in_ok-inside.ensures.parses (there_is _ c.if-is_none.ensures) c.if-not-take.ensures in (m.0, m.1, inl (there_is _ c.if-is_none.ensures))
 
 pub declared-returns-then-not-is_at-clause-parses : goal.declared-returns-then-not-is_at-clause-parses
-declared-returns-then-not-is_at-clause-parses t c = c.in_ok-whole.ensures.parses c.args.form _ c.place-at.ensures (c.in_ok-core.ensures.parses (λ q. not_there c.is_at.result c.if-not-is_at.true c.is_at.ensures.stands (star_there c.args.self.now.rest.now q))).0 (c.in_ok-core.ensures.parses (λ q. not_there c.is_at.result c.if-not-is_at.true c.is_at.ensures.stands (star_there c.args.self.now.rest.now q))).1 (c.in_ok-core.ensures.parses (λ q. not_there c.is_at.result c.if-not-is_at.true c.is_at.ensures.stands (star_there c.args.self.now.rest.now q))).2 c.in_ok-core.ensures.deep
+declared-returns-then-not-is_at-clause-parses t c = let k = c.in_ok-core.ensures.parses (λ q. not_there c.is_at.result c.if-not-is_at.true c.is_at.ensures.stands (star_there c.args.self.now.rest.now q)) in c.lengthened.ensures.parses c.args.form _ c.place-at.ensures k.0 k.1 k.2 c.in_ok-core.ensures.deep
+
+pub declared-returns-then-not-is_at-clause-shorter : goal.declared-returns-then-not-is_at-clause-shorter
+declared-returns-then-not-is_at-clause-shorter t c = short_before _ c.lengthened.result c.lengthened.ensures.shorter c.in_ok-core.ensures.shorter
 
 pub declared-returns-clause-parses : goal.declared-returns-clause-parses
-declared-returns-clause-parses t c = pointer_made c.args.form c.in_node.ensures.pairs c.place-at.ensures (c.is_at.ensures.stands.0 c.if-not-is_at.false) c.skip.ensures.skips c.consts.ensures.took c.in_ok-inner.ensures.parses c.in_ok-whole-2.ensures.makes
+declared-returns-clause-parses t c = pointer_made c.args.form c.in_node.ensures.pairs c.place-at.ensures (c.is_at.ensures.stands.0 c.if-not-is_at.false) c.skip.ensures.skips c.consts.ensures.took c.in_ok-inner.ensures.parses c.in_ok-whole.ensures.makes
 
 pub expressions_from-loop-alloc-init : goal.expressions_from-loop-alloc-init
 expressions_from-loop-alloc-init t c = record {
@@ -240,8 +243,11 @@ assignment_expression-returns-in_err-whole-2-clause-parses t c = let w = err_fro
 pub conditional_expression-returns-in_err-operand-clause-parses : goal.conditional_expression-returns-in_err-operand-clause-parses
 conditional_expression-returns-in_err-operand-clause-parses t c = let w = err_from_is_err_and c.from_residual.result c.from_residual.ensures.1 in rw (w.1, w.2) (raised c.in_err-operand.ensures.parses (λ b r f. test_fails (first_operand 10 f)) (λ at y o. test_opens (first_operand_opens 10 o)))
 
-pub conditional_expression-returns-in_err-whole-clause-parses : goal.conditional_expression-returns-in_err-whole-clause-parses
-conditional_expression-returns-in_err-whole-clause-parses t c = let w = err_from_is_err_and c.from_residual-in_err-whole.result c.from_residual-in_err-whole.ensures.1 in rw (w.1, w.2) (c.in_err-whole.ensures.parses _ c.place-at.ensures c.in_ok-operand.ensures.parses.0 c.in_ok-operand.ensures.parses.1 c.in_ok-operand.ensures.deep)
+pub conditional_expression-returns-clause-parses : goal.conditional_expression-returns-clause-parses
+conditional_expression-returns-clause-parses t c = c.conditional_from.ensures.parses _ c.place-at.ensures c.in_ok-operand.ensures.parses.0 c.in_ok-operand.ensures.parses.1 c.in_ok-operand.ensures.deep
+
+pub conditional_expression-returns-clause-shorter : goal.conditional_expression-returns-clause-shorter
+conditional_expression-returns-clause-shorter t c = shorter_before _ c.conditional_from.result c.conditional_from.ensures.shorter c.in_ok-operand.ensures.shorter
 
 pub conditional_from-returns-in_err-test-clause-parses : goal.conditional_from-returns-in_err-test-clause-parses
 conditional_from-returns-in_err-test-clause-parses t c = λ s p r z d. let w = err_from_is_err_and c.from_residual.result c.from_residual.ensures.1 in rw (w.1, w.2) (raised (c.in_err-test.ensures.parses s p r z d) (λ b r f. test_fails f) (λ at y o. test_opens o))
@@ -273,14 +279,11 @@ binary_from-returns-in_err-right-clause-parses t c = λ s p r z d. let w = err_f
 pub binary_from-returns-in_err-left-clause-parses : goal.binary_from-returns-in_err-left-clause-parses
 binary_from-returns-in_err-left-clause-parses t c = λ s p r z d. let w = err_from_is_err_and c.from_residual-in_err-left.result c.from_residual-in_err-left.ensures.1 in rw (w.1, w.2) no_memory
 
-pub cast_expression-returns-in_err-whole-clause-parses : goal.cast_expression-returns-in_err-whole-clause-parses
-cast_expression-returns-in_err-whole-clause-parses t c = let w = err_from_is_err_and c.from_residual.result c.from_residual.ensures.1 in rw (w.1, w.2) (raised c.in_err-whole.ensures.parses (bare_cast (not_there c.is_at_cast.result c.if-not-is_at_cast.true c.is_at_cast.ensures.stands)) (λ at y o. cast_opens o))
-
 pub cast_expression-returns-then-room-eq0-clause-parses : goal.cast_expression-returns-then-room-eq0-clause-parses
 cast_expression-returns-then-room-eq0-clause-parses t c = deep_at _ (no_nodes cast_level _ c.if-room-eq0.true) (cast_deep (c.is_at_cast.ensures.stands.0 c.if-not-is_at_cast.false) c.place-at.ensures c.if-room-eq0.true) (some_cast _ (c.is_at_cast.ensures.stands.0 c.if-not-is_at_cast.false))
 
 pub cast_expression-returns-in_err-target-clause-parses : goal.cast_expression-returns-in_err-target-clause-parses
-cast_expression-returns-in_err-target-clause-parses t c = let w = err_from_is_err_and c.from_residual-in_err-target.result c.from_residual-in_err-target.ensures.1 in rw (w.1, w.2) (raised_in (omega (arith, c.if-room-eq0.false)) c.in_node.ensures.nodes c.in_node.ensures.pairs c.in_err-target.ensures.parses (cast_type_fails (c.is_at_cast.ensures.stands.0 c.if-not-is_at_cast.false) c.skip.ensures.skips) (λ at y o. cast_name_opens _ (c.is_at_cast.ensures.stands.0 c.if-not-is_at_cast.false) c.skip.ensures.skips o))
+cast_expression-returns-in_err-target-clause-parses t c = let w = err_from_is_err_and c.from_residual.result c.from_residual.ensures.1 in rw (w.1, w.2) (raised_in (omega (arith, c.if-room-eq0.false)) c.in_node.ensures.nodes c.in_node.ensures.pairs c.in_err-target.ensures.parses (cast_type_fails (c.is_at_cast.ensures.stands.0 c.if-not-is_at_cast.false) c.skip.ensures.skips) (λ at y o. cast_name_opens _ (c.is_at_cast.ensures.stands.0 c.if-not-is_at_cast.false) c.skip.ensures.skips o))
 
 pub cast_expression-returns-then-not-take-clause-parses : goal.cast_expression-returns-then-not-take-clause-parses
 cast_expression-returns-then-not-take-clause-parses t c = wrong_here (ends_at c.if-not-take.ensures.1 (cast_unclosed (c.is_at_cast.ensures.stands.0 c.if-not-is_at_cast.false) c.skip.ensures.skips c.in_ok-target.ensures.parses c.if-not-take.ensures.0 any))
@@ -288,35 +291,29 @@ cast_expression-returns-then-not-take-clause-parses t c = wrong_here (ends_at c.
 pub cast_expression-returns-in_err-operand-clause-parses : goal.cast_expression-returns-in_err-operand-clause-parses
 cast_expression-returns-in_err-operand-clause-parses t c = let w = err_from_is_err_and c.from_residual-in_err-operand.result c.from_residual-in_err-operand.ensures.1 in rw (w.1, w.2) (raised_in (omega (arith, c.if-room-eq0.false)) c.in_node-2.ensures.nodes c.in_node-2.ensures.pairs c.in_err-operand.ensures.parses (cast_operand_fails (c.is_at_cast.ensures.stands.0 c.if-not-is_at_cast.false) c.skip.ensures.skips c.in_ok-target.ensures.parses c.if-not-take.ensures.1 c.if-not-take.ensures.2) (λ at y o. cast_part_opens _ (c.is_at_cast.ensures.stands.0 c.if-not-is_at_cast.false) c.skip.ensures.skips (paired_type c.in_node.ensures.pairs c.in_ok-target.ensures.parses.0, c.in_ok-target.ensures.parses.1) c.if-not-take.ensures.1 c.if-not-take.ensures.2 o))
 
-pub cast_expression-returns-in_err-whole-2-clause-parses : goal.cast_expression-returns-in_err-whole-2-clause-parses
-cast_expression-returns-in_err-whole-2-clause-parses t c = let w = err_from_is_err_and c.from_residual-in_err-whole-2.result c.from_residual-in_err-whole-2.ensures.1 in rw (w.1, w.2) no_memory
-
-pub unary_expression-returns-in_err-whole-clause-parses : goal.unary_expression-returns-in_err-whole-clause-parses
-unary_expression-returns-in_err-whole-clause-parses t c = let w = err_from_is_err_and c.from_residual.result c.from_residual.ensures.1 in rw (w.1, w.2) (raised c.in_err-whole.ensures.parses (bare_unary c.in_default.ensures.stands) (λ at y o. unary_opens o))
+pub cast_expression-returns-in_err-whole-clause-parses : goal.cast_expression-returns-in_err-whole-clause-parses
+cast_expression-returns-in_err-whole-clause-parses t c = let w = err_from_is_err_and c.from_residual-in_err-whole.result c.from_residual-in_err-whole.ensures.1 in rw (w.1, w.2) no_memory
 
 pub unary_expression-returns-in_default-clause-parses : goal.unary_expression-returns-in_default-clause-parses
-unary_expression-returns-in_default-clause-parses t c = no_prefixed c.in_ok-whole.ensures.parses
+unary_expression-returns-in_default-clause-parses t c = tree_raised c.postfix_expression.result c.postfix_expression.ensures.parses (λ e s. no_prefixed s) (bare_unary c.in_default.ensures.stands) (λ at y o. unary_opens o)
 
 pub unary_expression-returns-then-room-eq0-clause-parses : goal.unary_expression-returns-then-room-eq0-clause-parses
 unary_expression-returns-then-room-eq0-clause-parses t c = deep_at _ (prefix_deep c.in-Some.prefix c.in-Some.ensures.stands c.if-room-eq0.true) (prefix_opens c.in-Some.prefix _ c.in-Some.ensures.stands c.place-at.ensures c.if-room-eq0.true) (prefix_some c.in-Some.prefix _ c.in-Some.ensures.stands)
 
-pub unary_expression-returns-in_err-whole-2-clause-parses : goal.unary_expression-returns-in_err-whole-2-clause-parses
-unary_expression-returns-in_err-whole-2-clause-parses t c = let w = err_from_is_err_and c.from_residual-in_err-whole-2.result c.from_residual-in_err-whole-2.ensures.1 in rw (w.1, w.2) (c.in_err-whole-2.ensures.parses _ c.place-at.ensures c.in-Some.ensures.stands c.skip.ensures.skips)
-
 pub unary_expression-returns-clause-parses : goal.unary_expression-returns-clause-parses
-unary_expression-returns-clause-parses t c = c.in_ok-whole-2.ensures.parses _ c.place-at.ensures c.in-Some.ensures.stands c.skip.ensures.skips
+unary_expression-returns-clause-parses t c = c.prefixed.ensures.parses _ c.place-at.ensures c.in-Some.ensures.stands c.skip.ensures.skips
 
-pub prefixed-returns-in_ok-whole-in-Sizeof-clause-parses : goal.prefixed-returns-in_ok-whole-in-Sizeof-clause-parses
-prefixed-returns-in_ok-whole-in-Sizeof-clause-parses t c = λ s p h e. sizeof_made p (prefix_is s c.in-Sizeof.is h) e c.in_ok-whole-in-Sizeof.ensures.parses
+pub unary_expression-returns-clause-shorter : goal.unary_expression-returns-clause-shorter
+unary_expression-returns-clause-shorter t c = shorter_after _ c.prefixed.result c.prefixed.ensures.shorter (omega (arith, c.skip.ensures.shorter))
 
-pub prefixed-returns-in_err-whole-in-Sizeof-clause-parses : goal.prefixed-returns-in_err-whole-in-Sizeof-clause-parses
-prefixed-returns-in_err-whole-in-Sizeof-clause-parses t c = λ s p h e. let w = err_from_is_err_and c.from_residual.result c.from_residual.ensures.1 in rw (w.1, w.2) (let k = taken_word _ s _ (prefix_is s c.in-Sizeof.is h) e in raised (c.in_err-whole-in-Sizeof.ensures.parses k.0 k.1 (p ∙ ap place k.2)) (moved_unary k.2) (λ at y o. moved_unary_open k.2 o))
+pub prefixed-returns-in-Sizeof-clause-parses : goal.prefixed-returns-in-Sizeof-clause-parses
+prefixed-returns-in-Sizeof-clause-parses t c = λ s p h e. sizeof_ends _ s _ c.sizeof_expression.result p (prefix_is s c.in-Sizeof.is h) e c.sizeof_expression.ensures.parses
 
 pub prefixed-returns-in_ok-whole-in-Step-clause-parses : goal.prefixed-returns-in_ok-whole-in-Step-clause-parses
 prefixed-returns-in_ok-whole-in-Step-clause-parses t c = λ s p h e. step_made c.in-Step.step c.in_node.ensures.pairs p (prefix_is s c.in-Step.is h) e c.in_ok-operand-in-Step.ensures.parses c.in_ok-whole-in-Step.ensures.makes
 
 pub prefixed-returns-in_err-operand-in-Step-clause-parses : goal.prefixed-returns-in_err-operand-in-Step-clause-parses
-prefixed-returns-in_err-operand-in-Step-clause-parses t c = λ s p h e. let w = err_from_is_err_and c.from_residual-in_err-operand-in-Step.result c.from_residual-in_err-operand-in-Step.ensures.1 in rw (w.1, w.2) (raised_in c.requires c.in_node.ensures.nodes c.in_node.ensures.pairs c.in_err-operand-in-Step.ensures.parses (step_operand_fails c.in-Step.step (prefix_is s c.in-Step.is h) e) (λ at y o. step_operand_opens c.in-Step.step (prefix_is s c.in-Step.is h) e o))
+prefixed-returns-in_err-operand-in-Step-clause-parses t c = λ s p h e. let w = err_from_is_err_and c.from_residual.result c.from_residual.ensures.1 in rw (w.1, w.2) (raised_in c.requires c.in_node.ensures.nodes c.in_node.ensures.pairs c.in_err-operand-in-Step.ensures.parses (step_operand_fails c.in-Step.step (prefix_is s c.in-Step.is h) e) (λ at y o. step_operand_opens c.in-Step.step (prefix_is s c.in-Step.is h) e o))
 
 pub prefixed-returns-in_err-whole-in-Step-clause-parses : goal.prefixed-returns-in_err-whole-in-Step-clause-parses
 prefixed-returns-in_err-whole-in-Step-clause-parses t c = λ s p h e. let w = err_from_is_err_and c.from_residual-in_err-whole-in-Step.result c.from_residual-in_err-whole-in-Step.ensures.1 in rw (w.1, w.2) no_memory
@@ -441,17 +438,14 @@ parameter-returns-in_err-inner-clause-parses t c = let w = err_from_is_err_and c
 pub declared-returns-in_err-core-clause-parses : goal.declared-returns-in_err-core-clause-parses
 declared-returns-in_err-core-clause-parses t c = let w = err_from_is_err_and c.from_residual.result c.from_residual.ensures.1 in rw (w.1, w.2) (c.in_err-core.ensures.parses (λ q. not_there c.is_at.result c.if-not-is_at.true c.is_at.ensures.stands (star_there c.args.self.now.rest.now q)))
 
-pub declared-returns-in_err-whole-clause-parses : goal.declared-returns-in_err-whole-clause-parses
-declared-returns-in_err-whole-clause-parses t c = let w = err_from_is_err_and c.from_residual-in_err-whole.result c.from_residual-in_err-whole.ensures.1 in rw (w.1, w.2) (let k = c.in_ok-core.ensures.parses (λ q. not_there c.is_at.result c.if-not-is_at.true c.is_at.ensures.stands (star_there c.args.self.now.rest.now q)) in c.in_err-whole.ensures.parses c.args.form _ c.place-at.ensures k.0 k.1 k.2 c.in_ok-core.ensures.deep)
-
 pub declared-returns-then-room-eq0-clause-parses : goal.declared-returns-then-room-eq0-clause-parses
 declared-returns-then-room-eq0-clause-parses t c = deep_at _ (pointer_deep c.args.form (c.is_at.ensures.stands.0 c.if-not-is_at.false) c.if-room-eq0.true) (pointer_opens_here c.args.form (c.is_at.ensures.stands.0 c.if-not-is_at.false) c.place-at.ensures c.if-room-eq0.true) (some_at ASTERISK _ (c.is_at.ensures.stands.0 c.if-not-is_at.false))
 
 pub declared-returns-in_err-inner-clause-parses : goal.declared-returns-in_err-inner-clause-parses
 declared-returns-in_err-inner-clause-parses t c = let w = err_from_is_err_and c.from_residual-in_err-inner.result c.from_residual-in_err-inner.ensures.1 in rw (w.1, w.2) (raised_in (omega (arith, c.if-room-eq0.false)) c.in_node.ensures.nodes c.in_node.ensures.pairs c.in_err-inner.ensures.parses (pointer_inner_fails c.args.form (c.is_at.ensures.stands.0 c.if-not-is_at.false) c.skip.ensures.skips c.consts.ensures.took (not_at_word c.consts.ensures.ends)) (λ at y o. pointer_inner_opens c.args.form _ (c.is_at.ensures.stands.0 c.if-not-is_at.false) c.skip.ensures.skips c.consts.ensures.took o))
 
-pub declared-returns-in_err-whole-2-clause-parses : goal.declared-returns-in_err-whole-2-clause-parses
-declared-returns-in_err-whole-2-clause-parses t c = let w = err_from_is_err_and c.from_residual-in_err-whole-2.result c.from_residual-in_err-whole-2.ensures.1 in rw (w.1, w.2) no_memory
+pub declared-returns-in_err-whole-clause-parses : goal.declared-returns-in_err-whole-clause-parses
+declared-returns-in_err-whole-clause-parses t c = let w = err_from_is_err_and c.from_residual-in_err-whole.result c.from_residual-in_err-whole.ensures.1 in rw (w.1, w.2) no_memory
 
 pub core-returns-then-eq-clause-parses : goal.core-returns-then-eq-clause-parses
 core-returns-then-eq-clause-parses t c = λ ns. wrong_here (name_wrong c.args.form (same_true the_type (search rules) _ _ (sym c.if-eq.ensures)) (c.is_at_name.ensures.0 c.if-is_at_name.true) any)
@@ -538,7 +532,7 @@ pub assignment_expression-returns-clause-deep : goal.assignment_expression-retur
 assignment_expression-returns-clause-deep t c = c.in_ok-whole-2.ensures.deep c.in_ok-operand.ensures.deep c.in_ok-value.ensures.deep
 
 pub conditional_expression-returns-clause-deep : goal.conditional_expression-returns-clause-deep
-conditional_expression-returns-clause-deep t c = c.in_ok-whole.ensures.deep c.in_ok-operand.ensures.deep
+conditional_expression-returns-clause-deep t c = c.conditional_from.ensures.deep c.in_ok-operand.ensures.deep
 
 pub conditional_from-returns-then-not-is_at-clause-deep : goal.conditional_from-returns-then-not-is_at-clause-deep
 conditional_from-returns-then-not-is_at-clause-deep t c = λ d. c.in_ok-test.ensures.deep d
@@ -550,7 +544,7 @@ pub binary_from-returns-clause-deep : goal.binary_from-returns-clause-deep
 binary_from-returns-clause-deep t c = λ d. c.loop-operator.invariant.deep d
 
 pub cast_expression-returns-clause-deep : goal.cast_expression-returns-clause-deep
-cast_expression-returns-clause-deep t c = c.in_ok-whole-2.ensures.deep c.in_ok-target.ensures.deep c.in_ok-operand.ensures.deep
+cast_expression-returns-clause-deep t c = c.in_ok-whole.ensures.deep c.in_ok-target.ensures.deep c.in_ok-operand.ensures.deep
 
 pub prefixed-returns-in_ok-whole-in-Step-clause-deep : goal.prefixed-returns-in_ok-whole-in-Step-clause-deep
 prefixed-returns-in_ok-whole-in-Step-clause-deep t c = c.in_ok-whole-in-Step.ensures.deep c.in_ok-operand-in-Step.ensures.deep
@@ -592,10 +586,10 @@ pub type_name-returns-clause-deep : goal.type_name-returns-clause-deep
 type_name-returns-clause-deep t c = type_deep_at c.type_node.ensures.depth c.type_node.ensures.makes c.in_ok-inner.ensures.deep
 
 pub declared-returns-then-not-is_at-clause-deep : goal.declared-returns-then-not-is_at-clause-deep
-declared-returns-then-not-is_at-clause-deep t c = c.in_ok-whole.ensures.deep c.in_ok-core.ensures.deep
+declared-returns-then-not-is_at-clause-deep t c = c.lengthened.ensures.deep c.in_ok-core.ensures.deep
 
 pub declared-returns-clause-deep : goal.declared-returns-clause-deep
-declared-returns-clause-deep t c = c.in_ok-whole-2.ensures.deep c.in_ok-inner.ensures.deep
+declared-returns-clause-deep t c = c.in_ok-whole.ensures.deep c.in_ok-inner.ensures.deep
 
 pub core-returns-then-not-opens-clause-deep : goal.core-returns-then-not-opens-clause-deep
 core-returns-then-not-opens-clause-deep t c = inl c.no_declarator.ensures.height

@@ -1,0 +1,8 @@
+use Rattle.std.proofs.Common.{inr, ap}
+use Rattle.c_syntax.specs.View.{declarator_of}
+use Rattle.c_parser_phrases.proofs.Deepest.{node_deep_declarator}
+use Rattle.c_parser_phrases.proofs.Rows.{kind_there, place_is_declarator}
+use Rattle.c_parser_phrases.proofs.nodes.measured_declarator.Goals as goal
+
+pub returns-clause-deep : goal.returns-clause-deep
+returns-clause-deep c = λ u. inr (node_deep_declarator c.enclosed.ensures.height c.enclosed.ensures.around (ap declarator_of c.in_ok-new.ensures.ok) (kind_there c.args.at c.args.kind) (place_is_declarator c.args.at c.args.kind) u)
