@@ -75,8 +75,7 @@ pub fn enter<'p>(
     }
     let count = program.defined();
     if f < count {
-        let now = enter_defined(program, memory, todo, here, entries, wanted, f, values)?;
-        return Ok(now);
+        return enter_defined(program, memory, todo, here, entries, wanted, f, values);
     }
     Ok(Now::Mistyped)
 }

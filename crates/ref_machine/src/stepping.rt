@@ -55,14 +55,8 @@ fn with_frame<'p>(
     ensures less { IfOk result (λ now. work now todo.new.items + of_bit now ≤ of_frame frame.entry + of_all todo.old.items) }
 {
     match frame {
-        Frame::Value(frame) => {
-            let now = with_value(alloc, program, counts, memory, todo, frame, v)?;
-            Ok(now)
-        }
-        Frame::Statement(frame) => {
-            let now = in_statement(memory, todo, here, frame, v)?;
-            Ok(now)
-        }
+        Frame::Value(frame) => with_value(alloc, program, counts, memory, todo, frame, v),
+        Frame::Statement(frame) => in_statement(memory, todo, here, frame, v),
         Frame::Exit(_) => Ok(Now::Mistyped),
         Frame::Call(_) => Ok(Now::Mistyped),
     }
@@ -84,10 +78,7 @@ fn have<'p>(
 {
     match todo.pop() {
         None => Ok(end(v)),
-        Some(frame) => {
-            let now = with_frame(alloc, program, counts, memory, todo, here, frame, v)?;
-            Ok(now)
-        }
+        Some(frame) => with_frame(alloc, program, counts, memory, todo, here, frame, v),
     }
 }
 
@@ -103,10 +94,7 @@ fn left_with<'p>(
     ensures less { IfOk result (λ now. work now todo.new.items + of_bit now ≤ of_frame frame.entry + of_all todo.old.items) }
 {
     match &frame {
-        Frame::Exit(frame) => {
-            let now = with_exit(memory, todo, *here, *frame, by)?;
-            Ok(now)
-        }
+        Frame::Exit(frame) => with_exit(memory, todo, *here, *frame, by),
         Frame::Call(call) => Ok(leave_call(memory, here, *call, by)),
         Frame::Value(_) => Ok(Now::Mistyped),
         Frame::Statement(_) => Ok(Now::Mistyped),
@@ -125,10 +113,7 @@ fn left<'p>(
 {
     match todo.pop() {
         None => Ok(Now::Mistyped),
-        Some(frame) => {
-            let now = left_with(memory, todo, here, frame, by)?;
-            Ok(now)
-        }
+        Some(frame) => left_with(memory, todo, here, frame, by),
     }
 }
 
@@ -151,8 +136,7 @@ fn enter_in_turn<'p>(
     ensures spent { entries.new + turns.new ≤ entries.old + turns.old }
 {
     *turns -= 1;
-    let now = enter(program, memory, todo, here, entries, wanted, f, values)?;
-    Ok(now)
+    enter(program, memory, todo, here, entries, wanted, f, values)
 }
 
 // A loop is tested, which costs a turn.
@@ -166,8 +150,7 @@ fn test_in_turn<'p>(
     ensures fewer { turns.new < turns.old }
 {
     *turns -= 1;
-    let now = test_loop(todo, of)?;
-    Ok(now)
+    test_loop(todo, of)
 }
 
 // Whether the next step costs no turn.
@@ -202,22 +185,10 @@ fn free_step<'p>(
     ensures less { IfOk result (λ next. of_bit now.entry ≡ 1 → work next todo.new.items + of_bit next < work now.entry todo.old.items + of_bit now.entry) }
 {
     match now {
-        Now::Eval { wanted, of } => {
-            let next = begin(alloc, program, counts, memory, todo, *here, wanted, of)?;
-            Ok(next)
-        }
-        Now::Have(v) => {
-            let next = have(alloc, program, counts, memory, todo, *here, v)?;
-            Ok(next)
-        }
-        Now::Exec(s) => {
-            let next = begin_statement(program, counts, memory, todo, *here, s)?;
-            Ok(next)
-        }
-        Now::Left(by) => {
-            let next = left(memory, todo, here, by)?;
-            Ok(next)
-        }
+        Now::Eval { wanted, of } => begin(alloc, program, counts, memory, todo, *here, wanted, of),
+        Now::Have(v) => have(alloc, program, counts, memory, todo, *here, v),
+        Now::Exec(s) => begin_statement(program, counts, memory, todo, *here, s),
+        Now::Left(by) => left(memory, todo, here, by),
         other => Ok(other),
     }
 }
@@ -266,15 +237,11 @@ fn costly_step<'p>(
             function,
             arguments,
         } => {
-            let next = enter_in_turn(
+            enter_in_turn(
                 program, memory, todo, here, entries, turns, wanted, function, &arguments,
-            )?;
-            Ok(next)
+            )
         }
-        Now::Test(of) => {
-            let next = test_in_turn(todo, turns, of)?;
-            Ok(next)
-        }
+        Now::Test(of) => test_in_turn(todo, turns, of),
         _ => unreachable!(),
     }
 }

@@ -1,4 +1,5 @@
 use Rattle.std.proofs.Common.{◌≤◌, nat_eq, slice_get, ap, sym, ◌∙◌, subst, arith}
+use Rattle.std.proofs.lemmas.Result.{MatchResult-weaker}
 use Rattle.c_tree.specs.View.{program_of}
 use Rattle.c_values.specs.Seen.{seen}
 use Rattle.c_meaning.specs.Results.{then_do}
@@ -13,9 +14,10 @@ returns-then-values-gt16-clause-entered c w rs taken turns =
     many_enter p w (nat_eq c.args.f p.main) c.args.wanted (slice_get p.functions c.args.f) c.args.values.now (state (seen c.args.memory.now) c.args.entries.now rs taken turns) (after_value p w (place_of c.args.here.now) (stack c.args.todo.now.items)) (omega arith)
 
 pub returns-then-f-count-clause-entered : goal.returns-then-f-count-clause-entered
-returns-then-f-count-clause-entered c w rs taken turns =
+returns-then-f-count-clause-entered c =
+    MatchResult-weaker c.enter_defined.result c.enter_defined.ensures.entered (λ now entered w rs taken turns.
     let p = program_of c.args.program.now in
-    c.in_ok-now.ensures.entered w rs taken turns ∙ ap (λ r. then_do r (after_value p w (place_of c.args.here.now) (stack c.args.todo.now.items))) (sym (few_enter p w (nat_eq c.args.f p.main) c.args.wanted (slice_get p.functions c.args.f) c.args.values.now (state (seen c.args.memory.now) c.args.entries.now rs taken turns) (omega arith)))
+    entered w rs taken turns ∙ ap (λ r. then_do r (after_value p w (place_of c.args.here.now) (stack c.args.todo.now.items))) (sym (few_enter p w (nat_eq c.args.f p.main) c.args.wanted (slice_get p.functions c.args.f) c.args.values.now (state (seen c.args.memory.now) c.args.entries.now rs taken turns) (omega arith)))) (λ error none. none)
 
 pub returns-clause-entered : goal.returns-clause-entered
 returns-clause-entered c w rs taken turns =

@@ -1,4 +1,5 @@
 use Rattle.std.proofs.Common.{◌≡◌, [], ap, sym, ◌∙◌, arith}
+use Rattle.std.proofs.lemmas.Result.{MatchResult-weaker}
 use Rattle.std.specs.Vec.{vec_len}
 use Rattle.c_tree.specs.View.{program_of}
 use Rattle.c_values.specs.Seen.{seen}
@@ -9,10 +10,11 @@ use Rattle.ref_machine_frames.proofs.Working.{pushed_work}
 use Rattle.ref_machine.proofs.Turning.{nothing_to_do}
 use Rattle.ref_machine.proofs.stepping.have.Goals as goal
 
-pub returns-in_ok-now-in-Some-clause-same : goal.returns-in_ok-now-in-Some-clause-same
-returns-in_ok-now-in-Some-clause-same c w st =
+pub returns-in-Some-clause-same : goal.returns-in-Some-clause-same
+returns-in-Some-clause-same c =
+    MatchResult-weaker c.with_frame.result c.with_frame.ensures.same (λ now same w st.
     let p = program_of c.args.program.now in
-    c.in_ok-now-in-Some.ensures.same w st ∙ ap (λ k. after_value p w (place_of c.args.here) k c.args.v (with_memory st (seen c.args.memory.now))) (sym (pushed c.pop.new.self.items c.args.todo.now.items c.in-Some.frame c.in-Some.ensures.items))
+    same w st ∙ ap (λ k. after_value p w (place_of c.args.here) k c.args.v (with_memory st (seen c.args.memory.now))) (sym (pushed c.pop.new.self.items c.args.todo.now.items c.in-Some.frame c.in-Some.ensures.items))) (λ error none. none)
 
 pub returns-in-None-clause-same : goal.returns-in-None-clause-same
 returns-in-None-clause-same c w st =
@@ -21,6 +23,6 @@ returns-in-None-clause-same c w st =
     let none : [] ≡ c.args.todo.now.items = nothing_to_do c.args.todo.now.items (vec_len c.args.todo.now) c.in-None.ensures.cases.0 c.args.todo.now.ok.0 in
     c.end.ensures.same p w (place_of c.args.here) (stack c.pop.new.self.items) m ∙ ap (λ todo. after_value p w (place_of c.args.here) (stack todo) c.args.v m) none
 
-pub returns-in_ok-now-in-Some-clause-less : goal.returns-in_ok-now-in-Some-clause-less
-returns-in_ok-now-in-Some-clause-less c =
-    omega (arith, c.in_ok-now-in-Some.ensures.less, pushed_work c.pop.new.self.items c.args.todo.now.items c.in-Some.frame c.in-Some.ensures.items)
+pub returns-in-Some-clause-less : goal.returns-in-Some-clause-less
+returns-in-Some-clause-less c =
+    MatchResult-weaker c.with_frame.result c.with_frame.ensures.less (λ now less. omega (arith, less, pushed_work c.pop.new.self.items c.args.todo.now.items c.in-Some.frame c.in-Some.ensures.items)) (λ error none. none)
