@@ -504,6 +504,10 @@ version_or_refused old new error text memory long shown =
           ]
     ]
 
+-- a reader that was given nothing
+pub nothing_given : (place : TracesPlace) → ReachesTraces place [] [] → StandForTraces (record { place = place; tail = []; size = 0; refused = None }) [] []
+nothing_given place reached = record { done = []; unrefused = refl; reached = reached; parts = refl; plain = λ has. omega (arith, has.1); size = refl; short = omega arith }
+
 -- the facts of a piece that was fed
 module _ {W : Type 0} (items : W → List Record) (old new : Held TracesPlace) (piece : List ℕ) where
   pub feed_kept : (result : Result W TraceError) → IfOk result (λ given. (text : List ℕ) (records : List Record) → StandForTraces old text records → StandForTraces new (text ++ piece) (records ++ items given)) → (result ≡ Err OutOfMemory → new ≡ old) → ((text : List ℕ) (records : List Record) → StandForTraces old text records → longest < length (text ++ piece) → (result ≡ Err TooLong) × (new.place ≡ old.place)) → IfErr result (λ error. (text : List ℕ) (records : List Record) → StandForTraces old text records → IsShown (IsRefusedAt new.place.stage) error (text ++ piece)) → (text : List ℕ) (records : List Record) (v : TracesVersion) → StandForTraces old text records → traces_version old ≡ Some v → traces_version new ≡ Some v

@@ -1,6 +1,7 @@
 -- The items of a list, written one after another.
-use Rattle.std.proofs.Common.{◌≡◌, ◌<◌, ℕ, ◌+◌, List, [], ◌∷◌, ◌++◌, length, take, get_or, flat_map, sym, ◌∙◌, ap, subst, append_assoc, inl, inr, arith}
-use Rattle.std.proofs.lemmas.List.{append-nil, take_more, get_or_default}
+use Rattle.std.proofs.Common.{◌≡◌, ◌<◌, ◌≤◌, ℕ, ◌+◌, List, [], ◌∷◌, ◌++◌, length, take, get_or, flat_map, sym, ◌∙◌, ap, subst, append_assoc, inl, inr, arith}
+use Rattle.std.specs.Prelude.{All}
+use Rattle.std.proofs.lemmas.List.{append-nil, take_more, take_all, get_or_default}
 use Rattle.std.proofs.lemmas.Grind.{flat_map-append}
 use Rattle.std.proofs.lemmas.Bool.{cases_lt}
 
@@ -22,3 +23,11 @@ module _ {X : Type 0} (xs : List X) (i : ℕ) (x : X) where
         let here : i ≡ k = omega arith in
         subst (λ j. P (get_or xs j d)) here (subst P (is ∙ get_or_default xs i x d lt) this)
   ]
+
+-- once all items are written
+module _ {X : Type 0} (xs : List X) (i : ℕ) (over : length xs ≤ i) where
+  pub written_all : (f : X → List ℕ) (start new : List ℕ) → new ≡ start ++ flat_map f (take i xs) → new ≡ start ++ flat_map f xs
+  written_all f start new is = is ∙ ap (λ ys. start ++ flat_map f ys) (take_all i xs over)
+
+  pub each_all : (P : X → Type 0) → ((k : ℕ) (d : X) → k < i → P (get_or xs k d)) → All P xs
+  each_all P before k d lt = before k d (omega arith)

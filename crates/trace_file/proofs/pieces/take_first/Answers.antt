@@ -1,7 +1,9 @@
-use Rattle.std.proofs.Common.{ℕ, List, [], ◌≡◌, ◌∙◌, length, subst, rules}
+use Rattle.std.proofs.Common.{ℕ, List, [], ◌≡◌, ◌∙◌, ◌++◌, length, subst, rules}
 use Rattle.std.specs.Prelude.{IfErr, OnOk}
+use Rattle.std.proofs.lemmas.Result.{err_from_is_err_and}
+use Rattle.trace_file.specs.declared.error.TraceError.TheVariants.{OutOfMemory}
 use Rattle.trace_file.specs.Pieces.{Shows, HasTaken}
-use Rattle.trace_file.proofs.PiecesLemmas.{joined_whole, after_empty}
+use Rattle.trace_file.proofs.PiecesLemmas.{joined_whole, after_empty, shows_always}
 use Rattle.trace_file.proofs.pieces.take_first.Goals as goal
 
 pub take_line-requires-2 : goal.take_line-requires-2
@@ -25,3 +27,8 @@ pub returns-then-is_empty-clause-shows : goal.returns-then-is_empty-clause-shows
 returns-then-is_empty-clause-shows g c =
     let none : length c.args.tail.now ≡ 0 = search rules in
     subst (λ (t : List ℕ). IfErr c.take_line.result (λ error. Shows g.P.Place.reaches (g.P.Place.refuses c.take_line.new.place) c.args.place.now error t)) (after_empty c.args.tail.now c.args.first.now none) c.take_line.ensures.shows
+
+pub returns-in_err-line-clause-shows : goal.returns-in_err-line-clause-shows
+returns-in_err-line-clause-shows g c =
+    let p = err_from_is_err_and c.from_residual.result c.from_residual.ensures.1 in
+    rw (p.1, p.2) (shows_always g.P.Place.reaches (g.P.Place.refuses c.args.place.now) c.args.place.now (c.args.tail.now ++ c.args.first.now) OutOfMemory (g.met.P.Place.memory c.args.place.now))
