@@ -96,6 +96,9 @@ fn environment_with<'t>(
     })
 }
 
+// Lets names go.
+fn let_go(_names: Numbering<'_>) {}
+
 /// What is known before the items of a unit. `At` names the demand that the unit has few names.
 pub fn environment_before<'t>(
     alloc: Global,
@@ -106,9 +109,19 @@ pub fn environment_before<'t>(
     ensures known { IfOk result (λ env. env_of env ≡ env_before mode (items_of items.now)) }
 {
     let functions = functions_in(alloc, items)?;
-    let objects = objects_in(alloc, items)?;
-    let tags = tags_of(alloc, items)?;
+    let Ok(objects) = objects_in(alloc, items) else {
+        let_go(functions);
+        return Err(CheckError::OutOfMemory);
+    };
+    let Ok(tags) = tags_of(alloc, items) else {
+        let_go(functions);
+        let_go(objects);
+        return Err(CheckError::OutOfMemory);
+    };
     if !are_all_few(&functions, &objects, &tags) {
+        let_go(functions);
+        let_go(objects);
+        let_go(tags);
         return Err(CheckError::At(C13, 0));
     }
     let functions = FewNames::of(functions);
