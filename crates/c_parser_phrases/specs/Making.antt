@@ -2,11 +2,10 @@
 use Rattle.std.specs.Prelude.{◌≡◌, ℕ, Bool, true, false, Result, Ok, Err, Box}
 use Rattle.std.specs.Global.{Global}
 use Rattle.c_syntax.specs.declared.tree.Expr.{Expr as ExprTree}
-use Rattle.c_syntax.specs.declared.tree.Declarator.{Declarator as DeclaratorTree}
 use Rattle.c_syntax.specs.declared.tree.ExprKind.{ExprKind}
 use Rattle.c_syntax.specs.Tree.{Expr, Exprs, Maybe, Spec, void, Declarator, nothing, Params, no_params, more_params, prefix, binary}
 use Rattle.c_syntax.specs.Grammar.{AreSome}
-use Rattle.c_syntax.specs.View.{expr_at, expr_of, declarator_of}
+use Rattle.c_syntax.specs.View.{expr_at, expr_of}
 use Rattle.c_syntax.specs.Writes.{exprs_of, params_of, declarator_behind, expr_behind}
 use Rattle.dm_base.specs.declared.memory.OutOfMemory.{OutOfMemory}
 use Rattle.c_parser_phrases.specs.declared.depth.MeasuredExpr.{MeasuredExpr}
@@ -32,14 +31,6 @@ inner_of m = declarator_behind m.tree
 
 abbrev pub list_of : MeasuredParams → Params
 list_of m = params_of m.params.items
-
-abbrev pub Boxes : Result (Box ExprTree Global) OutOfMemory → Expr → Type 0
-Boxes (Ok b) tree = expr_of b.value ≡ tree
-Boxes (Err e) tree = Unit {0}
-
-abbrev pub BoxesDeclarator : Result (Box DeclaratorTree Global) OutOfMemory → Declarator → Type 0
-BoxesDeclarator (Ok b) tree = declarator_of b.value ≡ tree
-BoxesDeclarator (Err e) tree = Unit {0}
 
 abbrev pub Makes : Result MeasuredExpr OutOfMemory → Expr → Type 0
 Makes (Ok m) tree = tree_of m ≡ tree

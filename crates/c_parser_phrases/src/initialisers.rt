@@ -50,8 +50,8 @@ impl<'a> Cursor<'a> {
         ensures parses { ListsInits room result self.old.rest.now self.new.rest.now }
         ensures shorter { OnOk result (length self.new.rest.now < length self.old.rest.now) }
     {
-        let mut list = Vec::new(alloc);
         let first = self.initialiser(alloc, room)?;
+        let mut list = Vec::new(alloc);
         list.push(first)?;
         while self.goes_on()? {
             let next = self.initialiser(alloc, room)?;
