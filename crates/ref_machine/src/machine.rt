@@ -34,7 +34,6 @@ pub enum Stage {
 
 /// A run of a program that can be paused at each event and each need of a recorded result (C99 5.1.2.3). It stands for its
 /// future: from the recorded results to come, how the run ends, and the events to come.
-#[derive(Drop)]
 pub struct Machine<'p> {
     alloc: Global,
     program: &'p Program,
@@ -53,6 +52,26 @@ pub struct Machine<'p> {
     ghost few: { allowed < 2 ^ 32 },
     ghost right: { GoesRight (program_of program.now) allowed (record { here = here; memory = seen memory; entries = entries; turns = turns; now = next; todo = todo.items }) taken } by { Prim.hlevel (props, IsEnding-prop) },
     ghost called: { HasCall stage next } by { HasCall-prop stage next },
+}
+
+// Written, so that a function that owns a machine proves no more than a call of it where it drops one.
+impl<'p> Drop for Machine<'p> {
+    fn drop(self) {
+        let Self {
+            alloc: _,
+            program: _,
+            counts: _counts,
+            memory: _memory,
+            todo: _todo,
+            here: _,
+            entries: _,
+            taken: _,
+            allowed: _,
+            turns: _,
+            stage: _,
+            next: _next,
+        } = self;
+    }
 }
 
 // Where a run stands before `main` is entered.
