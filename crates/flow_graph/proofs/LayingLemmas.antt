@@ -6,10 +6,11 @@ use Rattle.flow_graph.specs.declared.shape.Shape.TheVariants.{Seq as SeqTree, Ca
 use Rattle.flow_graph.proofs.Rows.{seq_is, cases_is}
 use Rattle.std.proofs.lemmas.List.{append-nil, append_assoc, length-drop}
 use Rattle.flow_graph.specs.declared.shape.Shape.{Shape as Tree}
+use Rattle.dm_base.proofs.ListLemmas.{two_parts}
 use Rattle.flow_graph.specs.View.{shape_of, parts_of}
-use Rattle.c_meaning_laws.specs.Shape.{Seq, Cases, End, Part}
+use Rattle.c_meaning_laws.specs.Shape.{Shape, Alt, Loop, Do, Seq, Cases, End, Part}
 use Rattle.c_meaning_laws.specs.Walks.{Silent}
-use Rattle.c_meaning_laws.specs.GraphLayout.{Edge, edge, Places, head, width, widths, count, edges, edges_of_parts, to_each}
+use Rattle.c_meaning_laws.specs.GraphLayout.{Edge, edge, Places, head, width, widths, count, edges, edges_of_parts, body, to_each}
 
 pub parts_many : (ts : List Tree) → count (parts_of ts) ≡ length ts
 parts_many [] = refl
@@ -89,6 +90,46 @@ of_cases s v d gs is same = ap shape_of is ∙ cases_is v d ∙ ap (λ ts. Cases
 pub then_on : (r : Result ℕ OutOfMemory) (old mid new a b m : List Edge) → mid ≡ old ++ a → m ≡ a ++ b → OnOk r (new ≡ mid ++ b) → OnOk r (new ≡ old ++ m)
 then_on (Ok u) old mid new a b m first e is = is ∙ ap (λ es. es ++ b) first ∙ append_assoc old a b ∙ ap (λ es. old ++ es) (sym e)
 then_on (Err x) old mid new a b m first e is = is
+
+-- where the nodes end
+pub ends_at : (r : Result ℕ OutOfMemory) (start n w v : ℕ) → start + w ≡ n + v → IfOk r (λ next. next ≡ start + w) → IfOk r (λ next. next ≡ n + v)
+ends_at (Ok x) start n w v e is = is ∙ e
+ends_at (Err x) start n w v e is = is
+
+-- one of two, and loops, laid part after part
+pub alt_laid : (r : Result ℕ OutOfMemory) (old mid new : List Edge) (W S T : Shape) (a n next : ℕ) (p : Places) → W ≡ Alt S T → next ≡ n + width S → mid ≡ old ++ edges S a n p
+    → OnOk r (new ≡ mid ++ edges T a next p) → OnOk r (new ≡ old ++ edges W a n p)
+alt_laid r old mid new W S T a n next p is past first =
+    then_on r old mid new (edges S a n p) (edges T a next p) (edges W a n p) first (ap (λ W. edges W a n p) is ∙ ap (λ k. edges S a n p ++ edges T a k p) (sym past))
+
+pub loop_laid : (r : Result ℕ OutOfMemory) (old one two three four new : List Edge) (W C B P : Shape) (a n k m : ℕ) (p : Places) → W ≡ Loop C B P
+    → one ≡ old ++ edge a Silent n ∷ [] → two ≡ one ++ edge (n + 1) Silent (p.to) ∷ []
+    → three ≡ two ++ edges C n (n + 3) (record p { to = n + 1 }) → k ≡ n + 3 + width C
+    → four ≡ three ++ edges B (n + 1) k (body p (n + 2) (p.to) (n + 2)) → m ≡ k + width B
+    → OnOk r (new ≡ four ++ edges P (n + 2) m (record p { to = n })) → OnOk r (new ≡ old ++ edges W a n p)
+loop_laid r old one two three four new W C B P a n k m p is e1 e2 e3 e4 e5 e6 =
+    let begin : List Edge → List Edge = λ es. edge a Silent n ∷ edge (n + 1) Silent (p.to) ∷ es in
+    let X = edges C n (n + 3) (record p { to = n + 1 }) in
+    let Y = edges B (n + 1) k (body p (n + 2) (p.to) (n + 2)) in
+    let Z = edges P (n + 2) m (record p { to = n }) in
+    then_on r old four new (begin (X ++ Y)) Z (edges W a n p)
+    (two_parts old one four (edge a Silent n ∷ []) (edge (n + 1) Silent (p.to) ∷ (X ++ Y)) e1 (two_parts one two four (edge (n + 1) Silent (p.to) ∷ []) (X ++ Y) e2 (two_parts two three four X Y e3 e5)))
+    (ap (λ W. edges W a n p) is
+    ∙ ap (λ j. begin (X ++ (edges B (n + 1) j (body p (n + 2) (p.to) (n + 2)) ++ edges P (n + 2) (j + width B) (record p { to = n })))) (sym e4)
+    ∙ ap (λ j. begin (X ++ (Y ++ edges P (n + 2) j (record p { to = n })))) (sym e6)
+    ∙ ap begin (sym (append_assoc X Y Z)))
+
+pub do_laid : (r : Result ℕ OutOfMemory) (old one two three four new : List Edge) (W B C : Shape) (a n k : ℕ) (p : Places) → W ≡ Do B C
+    → one ≡ old ++ edge a Silent n ∷ [] → two ≡ one ++ edge (n + 2) Silent n ∷ [] → three ≡ two ++ edge (n + 2) Silent (p.to) ∷ []
+    → four ≡ three ++ edges B n (n + 3) (body p (n + 1) (p.to) (n + 1)) → k ≡ n + 3 + width B
+    → OnOk r (new ≡ four ++ edges C (n + 1) k (record p { to = n + 2 })) → OnOk r (new ≡ old ++ edges W a n p)
+do_laid r old one two three four new W B C a n k p is e1 e2 e3 e4 e5 =
+    let X = edges B n (n + 3) (body p (n + 1) (p.to) (n + 1)) in
+    let rest = edge (n + 2) Silent (p.to) ∷ X in
+    then_on r old four new (edge a Silent n ∷ edge (n + 2) Silent n ∷ rest) (edges C (n + 1) k (record p { to = n + 2 })) (edges W a n p)
+    (two_parts old one four (edge a Silent n ∷ []) (edge (n + 2) Silent n ∷ rest) e1
+    (two_parts one two four (edge (n + 2) Silent n ∷ []) rest e2 (two_parts two three four (edge (n + 2) Silent (p.to) ∷ []) X e3 e4)))
+    (ap (λ W. edges W a n p) is ∙ ap (λ j. edge a Silent n ∷ edge (n + 2) Silent n ∷ edge (n + 2) Silent (p.to) ∷ (X ++ edges C (n + 1) j (record p { to = n + 2 }))) (sym e5))
 
 -- a first part and the others
 module _ (s : Tree) (t : Box Tree Global) (v : Vec Tree Global) (rest : List Tree) (f : Tree) (is : s ≡ SeqTree t v) (same : rest ≡ v.items) (first : f ≡ t.value) (n start next : ℕ) (from : start ≡ n + count (parts_of rest)) (past : next ≡ start + width (shape_of f)) where

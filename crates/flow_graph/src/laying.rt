@@ -21,8 +21,7 @@ fn add(into: &mut Vec<Edge>, from: u32, label: Label, to: u32) -> Result<(), Out
 fn add_silent(into: &mut Vec<Edge>, from: u32, to: u32) -> Result<(), OutOfMemory>
     ensures { OnOk result (edges_in into.new.items ≡ edges_in into.old.items ++ edge from Silent to ∷ []) }
 {
-    add(into, from, Label::Silent, to)?;
-    Ok(())
+    add(into, from, Label::Silent, to)
 }
 
 // The node past those of so many parts, which stand from n on.
@@ -185,8 +184,7 @@ fn lay_past(into: &mut Vec<Edge>, has_default: bool, a: u32, to: u32) -> Result<
     if has_default {
         return Ok(());
     }
-    add_silent(into, a, to)?;
-    Ok(())
+    add_silent(into, a, to)
 }
 
 // The groups of a switch: it goes to any of them, each falls to the next, and a break leads past them.

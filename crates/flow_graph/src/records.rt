@@ -1,4 +1,4 @@
-ghost use Rattle.std.specs.Prelude.{◌≡◌, ◌<◌, ◌^◌, ◌++◌, map, OnOk, IfOk};
+ghost use Rattle.std.specs.Prelude.{◌≡◌, ◌<◌, ◌^◌, ◌++◌, [], map, OnOk, IfOk};
 ghost use Rattle.c_tree.specs.View.{program_of};
 ghost use Rattle.c_meaning_laws.specs.ShapeOf.{shapes_of_functions, names_of_functions, taken_calls, candidate_places};
 ghost use Rattle.call_graph.specs.Calls.{AreCallsOf};
@@ -41,7 +41,32 @@ fn add_sys(builder: &mut ModelBuilder, edges: &[SysEdge]) -> Result<(), OutOfMem
     Ok(())
 }
 
-// A builder with the functions of these shapes, with these edges, and with the calls along these edges at sites.
+// Gives a builder that has nothing the functions of these shapes, these edges, and the calls along these edges at
+// sites.
+fn fill(
+    builder: &mut ModelBuilder,
+    alloc: Global,
+    program: &Program,
+    calls: &Calls,
+    shapes: &[Shape],
+    taken: &[u32],
+    lists: &Lists,
+    sites: &[SiteEdge],
+) -> Result<(), OutOfMemory>
+    requires fresh { builder.old ≡ record { functions = []; silent = []; sys = []; calls = [] } }
+    requires calls { AreCallsOf (program_of program.now) calls.now }
+    requires shapes { shapes_in shapes.now ≡ shapes_of_functions (program_of program.now) }
+    requires taken { taken.now ≡ taken_calls (program_of program.now) }
+    requires few { nodes_from 0 (shapes_in shapes.now) < 2 ^ 32 }
+    ensures { OnOk result (builder.new ≡ record { functions = functions_from 0 (names_of_functions (program_of program.now)) (shapes_in shapes.now); silent = lists.now.silent.items; sys = lists.now.sys.items; calls = map (call_of (candidate_places (program_of program.now))) sites.now }) }
+{
+    add_functions(builder, alloc, program, taken, shapes)?;
+    add_silent(builder, &lists.silent)?;
+    add_sys(builder, &lists.sys)?;
+    add_calls(builder, alloc, program, calls, taken, sites)
+}
+
+// A builder with them.
 fn builder_with(
     alloc: Global,
     program: &Program,
@@ -58,10 +83,16 @@ fn builder_with(
     ensures { IfOk result (λ b. b ≡ record { functions = functions_from 0 (names_of_functions (program_of program.now)) (shapes_in shapes.now); silent = lists.now.silent.items; sys = lists.now.sys.items; calls = map (call_of (candidate_places (program_of program.now))) sites.now }) }
 {
     let mut builder = ModelBuilder::new(alloc)?;
-    add_functions(&mut builder, alloc, program, taken, shapes)?;
-    add_silent(&mut builder, &lists.silent)?;
-    add_sys(&mut builder, &lists.sys)?;
-    add_calls(&mut builder, alloc, program, calls, taken, sites)?;
+    fill(
+        &mut builder,
+        alloc,
+        program,
+        calls,
+        shapes,
+        taken,
+        lists,
+        sites,
+    )?;
     Ok(builder)
 }
 

@@ -33,8 +33,7 @@ pub fn add(into: &mut Vec<Shape>, part: Shape) -> Result<(), OutOfMemory>
     if is_nothing(&part) {
         return Ok(());
     }
-    push(into, part)?;
-    Ok(())
+    push(into, part)
 }
 
 // Puts a part before others, unless it is nothing.
@@ -68,8 +67,7 @@ pub fn then_last(alloc: Global, mut parts: Vec<Shape>, last: Shape) -> Result<Sh
     ensures { IfOk result (λ s. shape_of s ≡ in_turn (joined (parts_of parts.items) (before_parts (shape_of last) End))) }
 {
     add(&mut parts, last)?;
-    let shape = in_turn(alloc, parts)?;
-    Ok(shape)
+    in_turn(alloc, parts)
 }
 
 // Parts in turn, none of which is nothing, between a first one and a last one.
@@ -83,8 +81,7 @@ pub fn between(
 {
     add(&mut parts, last)?;
     put_before(&mut parts, first)?;
-    let shape = in_turn(alloc, parts)?;
-    Ok(shape)
+    in_turn(alloc, parts)
 }
 
 // One part after another, where each that is nothing is left out.
@@ -93,8 +90,7 @@ pub fn two(alloc: Global, first: Shape, second: Shape) -> Result<Shape, OutOfMem
 {
     let mut parts = Vec::new(alloc);
     add(&mut parts, first)?;
-    let shape = then_last(alloc, parts, second)?;
-    Ok(shape)
+    then_last(alloc, parts, second)
 }
 
 // Whether both shapes are nothing.
@@ -125,8 +121,7 @@ pub fn perhaps(alloc: Global, first: Shape, second: Shape) -> Result<Shape, OutO
     ensures { IfOk result (λ s. shape_of s ≡ seq_two (shape_of first) (alt_of (shape_of second) Skip)) }
 {
     let second = alt(alloc, second, Shape::Skip)?;
-    let shape = two(alloc, first, second)?;
-    Ok(shape)
+    two(alloc, first, second)
 }
 
 // A part, and after it one of two.
@@ -134,8 +129,7 @@ pub fn one_of(alloc: Global, first: Shape, one: Shape, other: Shape) -> Result<S
     ensures { IfOk result (λ s. shape_of s ≡ seq_two (shape_of first) (alt_of (shape_of one) (shape_of other))) }
 {
     let second = alt(alloc, one, other)?;
-    let shape = two(alloc, first, second)?;
-    Ok(shape)
+    two(alloc, first, second)
 }
 
 // A loop with its test, its body and its step.
@@ -168,6 +162,5 @@ pub fn for_of(
     ensures { IfOk result (λ s. shape_of s ≡ seq_two (shape_of first) (Loop (shape_of test) (shape_of body) (shape_of step))) }
 {
     let rounds = loop_of(alloc, test, body, step)?;
-    let shape = two(alloc, first, rounds)?;
-    Ok(shape)
+    two(alloc, first, rounds)
 }

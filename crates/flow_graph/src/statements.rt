@@ -57,8 +57,7 @@ fn switch_of(
     ensures { IfOk result (λ s. shape_of s ≡ seq_two (shape_of on) (Cases (parts_of cases.items) (has_default (groups_of groups.now)))) }
 {
     let cases = Shape::Cases(cases, has_default(groups));
-    let shape = two(alloc, on, cases)?;
-    Ok(shape)
+    two(alloc, on, cases)
 }
 
 impl<'p> Reading<'p> {

@@ -1,9 +1,9 @@
-use Rattle.std.proofs.Common.{◌++◌, ◌∙◌, ap, refl, sym, arith, drop, ◌+◌, ◌^◌}
-use Rattle.c_meaning_laws.specs.Shape.{Cases}
+use Rattle.std.proofs.Common.{◌≡◌, ◌++◌, ◌∙◌, ap, ap₂, refl, sym, arith, drop, ◌+◌, ◌^◌}
+use Rattle.c_meaning_laws.specs.Shape.{Alt, Loop, Do, Cases}
 use Rattle.flow_graph.specs.View.{shape_of, parts_of}
 use Rattle.flow_graph.specs.Edges.{edges_in, places_of}
 use Rattle.c_meaning_laws.specs.GraphLayout.{edges, edges_of_parts, width, count}
-use Rattle.flow_graph.proofs.LayingLemmas.{parts_many, of_cases, on_same, next_same, laid_more, fresh_more, seq_laid, seq_next, rest_nodes, first_fits, rest_fits, cases_fit}
+use Rattle.flow_graph.proofs.LayingLemmas.{parts_many, of_cases, on_same, next_same, ends_at, alt_laid, loop_laid, do_laid, laid_more, fresh_more, seq_laid, seq_next, rest_nodes, first_fits, rest_fits, cases_fit}
 use Rattle.flow_graph.specs.declared.shape.Shape.TheViews.{size-Shape, sized-Seq, sized-Cases}
 use Rattle.flow_graph.proofs.laying.+laying.Goals as goal
 
@@ -36,6 +36,41 @@ lay-returns-in_ok-next-in-Seq-clause-next t c =
     let from = c.after_each-start.ensures ∙ ap (λ ts. c.args.n + count (parts_of ts)) (c.deref.ensures.value ∙ sym c.deref-in-Seq-2.ensures.value) in
     seq_next c.args.shape.now c.in-Seq.first c.in-Seq.rest c.deref-in-Seq-2.result.now c.deref-in-Seq.result.now c.in-Seq.is c.deref-in-Seq-2.ensures.value c.deref-in-Seq.ensures c.args.n c.after_each-start.result c.in_ok-next-in-Seq.next from c.in_ok-next-in-Seq.ensures.next
     c.lay_parts.result c.lay_parts.ensures.next
+
+pub lay-returns-in_ok-next-in-Alt-clause-laid : goal.lay-returns-in_ok-next-in-Alt-clause-laid
+lay-returns-in_ok-next-in-Alt-clause-laid t c =
+    let S = c.deref-in-Alt.result.now in
+    let T = c.deref-in-Alt-2.result.now in
+    alt_laid c.lay-in-Alt-2.result (edges_in c.args.into.now.items) (edges_in c.lay-in-Alt.new.into.items) (edges_in c.lay-in-Alt-2.new.into.items) (shape_of c.args.shape.now) (shape_of S) (shape_of T) c.args.a c.args.n c.in_ok-next-in-Alt.next (places_of c.args.p)
+    (ap shape_of c.in-Alt.is ∙ ap₂ (λ x y. Alt (shape_of x) (shape_of y)) (sym c.deref-in-Alt.ensures) (sym c.deref-in-Alt-2.ensures))
+    c.in_ok-next-in-Alt.ensures.next c.in_ok-next-in-Alt.ensures.laid c.lay-in-Alt-2.ensures.laid
+
+pub lay-returns-in_ok-next-in-Alt-clause-next : goal.lay-returns-in_ok-next-in-Alt-clause-next
+lay-returns-in_ok-next-in-Alt-clause-next t c =
+    let S = c.deref-in-Alt.result.now in
+    let T = c.deref-in-Alt-2.result.now in
+    let all : width (shape_of c.args.shape.now) ≡ width (shape_of S) + width (shape_of T) = ap width (ap shape_of c.in-Alt.is ∙ ap₂ (λ x y. Alt (shape_of x) (shape_of y)) (sym c.deref-in-Alt.ensures) (sym c.deref-in-Alt-2.ensures)) in
+    let past = c.in_ok-next-in-Alt.ensures.next in
+    ends_at c.lay-in-Alt-2.result c.in_ok-next-in-Alt.next c.args.n (width (shape_of T)) (width (shape_of c.args.shape.now)) (omega (arith, all, past)) c.lay-in-Alt-2.ensures.next
+
+pub lay-returns-in_ok-next-in-Loop-2-clause-laid : goal.lay-returns-in_ok-next-in-Loop-2-clause-laid
+lay-returns-in_ok-next-in-Loop-2-clause-laid t c =
+    let C = c.deref-in-Loop.result.now in
+    let B = c.deref-in-Loop-2.result.now in
+    let P = c.deref-in-Loop-3.result.now in
+    loop_laid c.lay-in-Loop-3.result (edges_in c.args.into.now.items) (edges_in c.add_silent-in-Loop.new.into.items) (edges_in c.add_silent-in-Loop-2.new.into.items) (edges_in c.lay-in-Loop.new.into.items) (edges_in c.lay-in-Loop-2.new.into.items) (edges_in c.lay-in-Loop-3.new.into.items)
+    (shape_of c.args.shape.now) (shape_of C) (shape_of B) (shape_of P) c.args.a c.args.n c.in_ok-next-in-Loop.next c.in_ok-next-in-Loop-2.next (places_of c.args.p)
+    (ap shape_of c.in-Loop.is ∙ ap₂ (λ x y. Loop (shape_of x) (shape_of y) (shape_of c.in-Loop.step.value)) (sym c.deref-in-Loop.ensures) (sym c.deref-in-Loop-2.ensures) ∙ ap (λ z. Loop (shape_of C) (shape_of B) (shape_of z)) (sym c.deref-in-Loop-3.ensures))
+    c.in_ok-add_silent-in-Loop.ensures c.in_ok-add_silent-in-Loop-2.ensures c.in_ok-next-in-Loop.ensures.laid c.in_ok-next-in-Loop.ensures.next c.in_ok-next-in-Loop-2.ensures.laid c.in_ok-next-in-Loop-2.ensures.next c.lay-in-Loop-3.ensures.laid
+
+pub lay-returns-in_ok-next-in-Do-clause-laid : goal.lay-returns-in_ok-next-in-Do-clause-laid
+lay-returns-in_ok-next-in-Do-clause-laid t c =
+    let B = c.deref-in-Do.result.now in
+    let C = c.deref-in-Do-2.result.now in
+    do_laid c.lay-in-Do-2.result (edges_in c.args.into.now.items) (edges_in c.add_silent-in-Do.new.into.items) (edges_in c.add_silent-in-Do-2.new.into.items) (edges_in c.add_silent-in-Do-3.new.into.items) (edges_in c.lay-in-Do.new.into.items) (edges_in c.lay-in-Do-2.new.into.items)
+    (shape_of c.args.shape.now) (shape_of B) (shape_of C) c.args.a c.args.n c.in_ok-next-in-Do.next (places_of c.args.p)
+    (ap shape_of c.in-Do.is ∙ ap₂ (λ x y. Do (shape_of x) (shape_of y)) (sym c.deref-in-Do.ensures) (sym c.deref-in-Do-2.ensures))
+    c.in_ok-add_silent-in-Do.ensures c.in_ok-add_silent-in-Do-2.ensures c.in_ok-add_silent-in-Do-3.ensures c.in_ok-next-in-Do.ensures.laid c.in_ok-next-in-Do.ensures.next c.lay-in-Do-2.ensures.laid
 
 pub lay_parts-overflow_add-following : goal.lay_parts-overflow_add-following
 lay_parts-overflow_add-following t c = let many = parts_many c.args.parts.now in omega (arith, many, c.requires.nodes, c.loop-k.invariant.node, c.loop-k-test.true)

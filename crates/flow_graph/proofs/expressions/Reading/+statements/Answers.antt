@@ -1,11 +1,11 @@
 use Rattle.std.proofs.Common.{◌∙◌, ap, ap₂, sym}
-use Rattle.c_tree.specs.View.{expr_of, maybe_of, stmt_of, stmts_of, groups_of}
-use Rattle.c_meaning_laws.specs.Shape.{Loop, Cases}
-use Rattle.c_meaning_laws.specs.ShapeOf.{without_skips, in_turn, seq, seq_two, has_default}
+use Rattle.c_tree.specs.View.{expr_of, maybe_of, inits_of, stmt_of, stmts_of, groups_of}
+use Rattle.c_meaning_laws.specs.Shape.{Skip, Loop, Do, Cases}
+use Rattle.c_meaning_laws.specs.ShapeOf.{without_skips, in_turn, seq, seq_two, alt, has_default}
 use Rattle.flow_graph.specs.View.{shape_of, parts_of}
-use Rattle.flow_graph.specs.Sited.{expr_at, maybe_at, stmt_at, stmts_at, groups_at}
+use Rattle.flow_graph.specs.Sited.{expr_at, maybe_at, inits_at, stmt_at, stmts_at, groups_at}
 use Rattle.flow_graph.proofs.TakenParts.{each, stmt_shape, group_shape, stmts_each, groups_each, part_more, parts_end, shape_more, shapes_end}
-use Rattle.flow_graph.proofs.Trees.{of_block, of_for, of_switch, same_shape}
+use Rattle.flow_graph.proofs.Trees.{of_block, of_if_none, of_if_some, of_for, of_switch, same_shape}
 use Rattle.flow_graph.proofs.expressions.Reading.+statements.Goals as goal
 
 pub statements-loop-s-preserved : goal.statements-loop-s-preserved
@@ -37,6 +37,63 @@ statement-returns-in-Block t c =
     let ms = c.args.self.now.marks.now in
     same_shape c.statements.result (seq (stmts_at n ms (stmts_of c.deref.result.now))) (stmt_at n ms (stmt_of c.args.s.now))
     (ap (λ ss. seq (stmts_at n ms (stmts_of ss))) c.deref.ensures.value ∙ of_block n ms c.args.s.now c.in-Block.ss c.in-Block.is) c.statements.ensures
+
+pub statement-returns-in-Empty : goal.statement-returns-in-Empty
+statement-returns-in-Empty t c = sym (ap (λ s. stmt_at c.args.self.now.defined c.args.self.now.marks.now (stmt_of s)) c.in-Empty.is)
+
+pub statement-returns-in-Break : goal.statement-returns-in-Break
+statement-returns-in-Break t c = sym (ap (λ s. stmt_at c.args.self.now.defined c.args.self.now.marks.now (stmt_of s)) c.in-Break.is)
+
+pub statement-returns-in-Continue : goal.statement-returns-in-Continue
+statement-returns-in-Continue t c = sym (ap (λ s. stmt_at c.args.self.now.defined c.args.self.now.marks.now (stmt_of s)) c.in-Continue.is)
+
+pub statement-returns-in-Expr : goal.statement-returns-in-Expr
+statement-returns-in-Expr t c =
+    let n = c.args.self.now.defined in
+    let ms = c.args.self.now.marks.now in
+    same_shape c.expression.result (expr_at n ms (expr_of c.in-Expr.e)) (stmt_at n ms (stmt_of c.args.s.now)) (sym (ap (λ s. stmt_at n ms (stmt_of s)) c.in-Expr.is)) c.expression.ensures
+
+pub statement-returns-in-Declare : goal.statement-returns-in-Declare
+statement-returns-in-Declare t c =
+    let n = c.args.self.now.defined in
+    let ms = c.args.self.now.marks.now in
+    same_shape c.initialisers.result (seq (inits_at n ms (inits_of c.deref-in-Declare.result.now))) (stmt_at n ms (stmt_of c.args.s.now))
+    (ap (λ is. seq (inits_at n ms (inits_of is))) c.deref-in-Declare.ensures.value ∙ sym (ap (λ s. stmt_at n ms (stmt_of s)) c.in-Declare.is)) c.initialisers.ensures
+
+pub statement-returns-in_ok-other-in-Some : goal.statement-returns-in_ok-other-in-Some
+statement-returns-in_ok-other-in-Some t c =
+    let n = c.args.self.now.defined in
+    let ms = c.args.self.now.marks.now in
+    let i = c.in-If in
+    let first = c.in_ok-one-in-If.ensures ∙ ap (λ s. stmt_at n ms (stmt_of s)) c.deref-in-If.ensures in
+    let second = c.in_ok-other-in-Some.ensures ∙ ap (λ s. stmt_at n ms (stmt_of s)) c.deref-in-Some.ensures in
+    same_shape c.choice.result (seq_two (expr_at n ms (expr_of i.test)) (alt (shape_of c.in_ok-one-in-If.one) (shape_of c.in_ok-other-in-Some.other))) (stmt_at n ms (stmt_of c.args.s.now))
+    (ap₂ (λ S T. seq_two (expr_at n ms (expr_of i.test)) (alt S T)) first second ∙ of_if_some n ms c.args.s.now i.test i.yes c.in-Some.no i.no i.is c.in-Some.is) c.choice.ensures
+
+pub statement-returns-in-None : goal.statement-returns-in-None
+statement-returns-in-None t c =
+    let n = c.args.self.now.defined in
+    let ms = c.args.self.now.marks.now in
+    let i = c.in-If in
+    let first = c.in_ok-one-in-If.ensures ∙ ap (λ s. stmt_at n ms (stmt_of s)) c.deref-in-If.ensures in
+    same_shape c.choice-in-None.result (seq_two (expr_at n ms (expr_of i.test)) (alt (shape_of c.in_ok-one-in-If.one) Skip)) (stmt_at n ms (stmt_of c.args.s.now))
+    (ap (λ S. seq_two (expr_at n ms (expr_of i.test)) (alt S Skip)) first ∙ of_if_none n ms c.args.s.now i.test i.yes i.no i.is c.in-None.is) c.choice-in-None.ensures
+
+pub statement-returns-in_ok-body-in-While : goal.statement-returns-in_ok-body-in-While
+statement-returns-in_ok-body-in-While t c =
+    let n = c.args.self.now.defined in
+    let ms = c.args.self.now.marks.now in
+    let body = c.in_ok-body-in-While.ensures ∙ ap (λ s. stmt_at n ms (stmt_of s)) c.deref-in-While.ensures in
+    same_shape c.loop_of.result (Loop (shape_of c.in_ok-test-in-While.test) (shape_of c.in_ok-body-in-While.body) Skip) (stmt_at n ms (stmt_of c.args.s.now))
+    (ap₂ (λ S T. Loop S T Skip) c.in_ok-test-in-While.ensures body ∙ sym (ap (λ s. stmt_at n ms (stmt_of s)) c.in-While.is)) c.loop_of.ensures
+
+pub statement-returns-in_ok-test-in-Do : goal.statement-returns-in_ok-test-in-Do
+statement-returns-in_ok-test-in-Do t c =
+    let n = c.args.self.now.defined in
+    let ms = c.args.self.now.marks.now in
+    let body = c.in_ok-body-in-Do.ensures ∙ ap (λ s. stmt_at n ms (stmt_of s)) c.deref-in-Do.ensures in
+    same_shape c.do_of.result (Do (shape_of c.in_ok-body-in-Do.body) (shape_of c.in_ok-test-in-Do.test)) (stmt_at n ms (stmt_of c.args.s.now))
+    (ap₂ Do body c.in_ok-test-in-Do.ensures ∙ sym (ap (λ s. stmt_at n ms (stmt_of s)) c.in-Do.is)) c.do_of.ensures
 
 pub statement-returns-in_ok-body-in-For : goal.statement-returns-in_ok-body-in-For
 statement-returns-in_ok-body-in-For t c =
