@@ -1,5 +1,4 @@
-use Rattle.std.proofs.Common.{◌∙◌, ap, ap₂, sym}
-use Rattle.c_tree.specs.View.{groups_of}
+use Rattle.std.proofs.Common.{◌∙◌, ap}
 use Rattle.c_meaning_laws.specs.Shape.{Cases}
 use Rattle.c_meaning_laws.specs.ShapeOf.{seq_two}
 use Rattle.flow_graph.specs.View.{shape_of, parts_of}
