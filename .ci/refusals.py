@@ -4,9 +4,9 @@
 It is an answer to an allocation that was refused. So it is built by the `From` impls that take the allocator's error, and by
 the few functions of ALLOCATING, which call an allocating function whose error isn't of this kind. Everywhere else it is only
 handed on: by `?`, in an arm whose pattern has it (`Err(OutOfMemory) => Err(X::OutOfMemory)`), below a test that an error is
-it, or in an arm `Err(_)` of a call whose error is the type OutOfMemory. A line that does none of this is named, unless it is
-one of the functions of AGAIN, and so is a function of a list that builds it nowhere: the lists only get shorter. The status
-is 0 where no line is named."""
+it, or in an arm `Err(_)` or behind the `else` of a `let Ok(..)` of a call whose error is the type OutOfMemory. A line that
+does none of this is named, unless it is one of the functions of AGAIN, and so is a function of a list that builds it
+nowhere: the lists only get shorter. The status is 0 where no line is named."""
 import pathlib
 import re
 import sys
@@ -69,6 +69,9 @@ def is_handed_on(source, at, errors):
         return True
     block = source.block(at)
     if re.search(r'OutOfMemory\)? (=>|\{)', block) or re.search(r'if \w+ == [\w:]+::OutOfMemory \{', block):
+        return True
+    refused = re.search(r'let Ok\(\w+\) = (?:\w+::)*(\w+)\(.*\) else \{', block)
+    if refused and errors.get(refused[1]) == {'OutOfMemory'}:
         return True
     called = re.search(r'match (?:\w+::)*(\w+)(?:::<[^>]*>)?\(', block)
     return bool(arrow and re.search(r'Err\(_\)', pattern) and called and errors.get(called[1]) == {'OutOfMemory'})
