@@ -2,4 +2,3 @@ pub mod LabelLemmas
 pub mod LaidLemmas
 pub mod ScopeLemmas
 pub use Rattle.c_check_counts.proofs.NextLemmas
-pub use Rattle.c_check_counts.proofs.Rows

@@ -12,7 +12,7 @@ ghost use Rattle.c_tree.specs.Tree.{break_off, continue_on, return_value, return
 ghost use Rattle.c_tree.specs.View.{ctype_of};
 
 use crate::around::Around;
-use crate::statement_tree::{StatementTree, bare};
+use crate::statement_tree::{StatementTree, bare, found};
 use c_check_initialisers::{C3, C8, CheckError, TypedExpression, as_if_assigned, is_void};
 use c_tree::{CType, TStmt};
 use std::alloc::Global;
@@ -24,7 +24,7 @@ pub fn broken_off(alloc: Global, around: &Around<'_>, at: u32) -> Result<Stateme
     if !around.breaks {
         return Err(CheckError::At(C8, at));
     }
-    Ok(bare(alloc, TStmt::Break)?)
+    found(bare(alloc, TStmt::Break))
 }
 
 /// A `continue`, which stands in a loop (C99 6.8.6.2).
@@ -34,7 +34,7 @@ pub fn continued(alloc: Global, around: &Around<'_>, at: u32) -> Result<Statemen
     if !around.continues {
         return Err(CheckError::At(C8, at));
     }
-    Ok(bare(alloc, TStmt::Continue)?)
+    found(bare(alloc, TStmt::Continue))
 }
 
 /// A `return` without a value, in a function without a result (C99 6.8.6.4).
@@ -44,7 +44,7 @@ pub fn returned_void(alloc: Global, returns: &CType, at: u32) -> Result<Statemen
     if !is_void(returns) {
         return Err(CheckError::At(C3, at));
     }
-    Ok(bare(alloc, TStmt::Return(None))?)
+    found(bare(alloc, TStmt::Return(None)))
 }
 
 /// A `return` with a value, which is converted as if by assignment to the function's result (C99 6.8.6.4 paragraph 3).
@@ -58,5 +58,5 @@ pub fn returned_value(
 {
     let assigned = as_if_assigned(alloc, at, returns, g)?;
     let tree = assigned.into_tree(alloc)?;
-    Ok(bare(alloc, TStmt::Return(Some(tree)))?)
+    found(bare(alloc, TStmt::Return(Some(tree))))
 }

@@ -5,7 +5,6 @@
 mod around;
 mod jumps;
 mod labels;
-mod loops;
 mod scopes;
 mod statement_tree;
 mod statements;
@@ -16,10 +15,10 @@ pub use around::{Around, in_loop, in_switch};
 pub use c_check_counts::{Next, name_of};
 pub use jumps::{broken_off, continued, returned_value, returned_void};
 pub use labels::are_distinct;
-pub use loops::{do_loop, for_loop, while_loop};
-pub use scopes::{declare_variable, leave_block, leave_names};
+pub use scopes::{declare_variable, enter_block, leave_block, leave_names};
 pub use statement_tree::{
-    StatementTree, StatementTrees, Variables, alone, appended, bare, no_statements, pushed,
+    StatementTree, StatementTrees, Variables, all_found, alone, appended, bare, found,
+    no_statements, pushed, variables_of_both, with_variables,
 };
 pub use statements::{block, if_else, only_if};
 pub use switches::{Labelled, group_added, label_type, no_labelled, switch_laid, switched};

@@ -1,4 +1,4 @@
-ghost use Rattle.std.specs.Prelude.{◌≡◌, suc, length, OnOk};
+ghost use Rattle.std.specs.Prelude.{◌≡◌, suc, length, IfOk, OnOk};
 ghost use Rattle.c_check_bodies.specs.Scoped.{Declares};
 ghost use Rattle.c_rules.specs.Scopes.{a_local, with_name};
 ghost use Rattle.c_check_counts.specs.View.{env_of};
@@ -39,6 +39,17 @@ pub fn leave_names(env: &mut Environment<'_>, count: usize)
     ensures { (outer : Environment) → Declares outer env.old → length outer.names ≡ count → env.new ≡ outer }
 {
     env.names.leave(count);
+}
+
+/// Enters a block: what stands in it is one block deeper. It gives what this many blocks enclosed before, to which `leave_block` goes back.
+pub fn enter_block(env: &mut Environment<'_>) -> Result<Count, OutOfMemory>
+    ensures before { IfOk result (λ depth. depth ≡ env.old.depth) }
+    ensures entered { OnOk result (env.new ≡ record env.old { depth = suc env.old.depth }) }
+{
+    let depth = env.depth.copy()?;
+    let deeper = env.depth.one_more()?;
+    env.depth = deeper;
+    Ok(depth)
 }
 
 /// Leaves a block, back to the so many names that were declared before it, and to what this many blocks enclose (C99 6.2.1 paragraph 4).

@@ -13,7 +13,7 @@ use std::alloc::Global;
 pub fn block(alloc: Global, items: StatementTrees) -> Result<StatementTree, OutOfMemory>
     ensures { IfOk result (λ l. statement_tree_of l ≡ with_tree (statement_trees_of items) (block (statement_trees_of items).tree)) }
 {
-    let StatementTrees { trees, variables } = items;
+    let (trees, variables) = items.into_parts();
     with_variables(alloc, TStmt::Block(trees), variables)
 }
 
@@ -21,7 +21,7 @@ pub fn block(alloc: Global, items: StatementTrees) -> Result<StatementTree, OutO
 pub fn only_if(alloc: Global, test: TExpr, yes: StatementTree) -> Result<StatementTree, OutOfMemory>
     ensures { IfOk result (λ l. statement_tree_of l ≡ with_tree (statement_tree_of yes) (if_else (expr_of test) (statement_tree_of yes).tree empty)) }
 {
-    let StatementTree { tree, variables } = yes;
+    let (tree, variables) = yes.into_parts();
     with_variables(
         alloc,
         TStmt::If {
@@ -42,11 +42,8 @@ pub fn if_else(
 ) -> Result<StatementTree, OutOfMemory>
     ensures { IfOk result (λ l. statement_tree_of l ≡ joined (statement_tree_of yes) (statement_tree_of no) (if_else (expr_of test) (statement_tree_of yes).tree (statement_tree_of no).tree)) }
 {
-    let StatementTree { tree, variables } = yes;
-    let StatementTree {
-        tree: other,
-        variables: others,
-    } = no;
+    let (tree, variables) = yes.into_parts();
+    let (other, others) = no.into_parts();
     let all = variables_of_both(variables, others)?;
     with_variables(
         alloc,

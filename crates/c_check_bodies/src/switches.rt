@@ -12,7 +12,8 @@ ghost use Rattle.c_tree.specs.View.{ctype_of};
 
 use crate::labels::are_distinct;
 use crate::statement_tree::{
-    StatementTree, StatementTrees, Variables, no_variables, variables_of_both, with_variables,
+    StatementTree, StatementTrees, Variables, found, no_variables, variables_of_both,
+    with_variables,
 };
 use c_check_initialisers::{C3, C7, CheckError, TypedExpression, converted_to, promoted};
 use c_tree::{CType, IntType, TGroup, TLabel, TStmt};
@@ -20,7 +21,6 @@ use dm_base::OutOfMemory;
 use std::alloc::Global;
 
 /// What groups of a switch give.
-#[derive(Drop)]
 pub struct Labelled {
     /// Their typed trees.
     pub groups: Vec<TGroup>,
@@ -28,6 +28,32 @@ pub struct Labelled {
     pub labels: Vec<TLabel>,
     /// The variables that their statements declare.
     pub variables: Variables,
+}
+
+impl Drop for Labelled {
+    fn drop(self) {
+        let Self {
+            groups: _groups,
+            labels: _labels,
+            variables: _variables,
+        } = self;
+    }
+}
+
+impl Labelled {
+    // Their typed trees, all labels in them and their variables.
+    fn into_parts(self) -> (Vec<TGroup>, Vec<TLabel>, Variables)
+        ensures groups { result.0 ≡ self.groups }
+        ensures labels { result.1 ≡ self.labels }
+        ensures variables { result.2 ≡ self.variables }
+    {
+        let Self {
+            groups,
+            labels,
+            variables,
+        } = self;
+        (groups, labels, variables)
+    }
 }
 
 /// What a switch compares with its labels: an integer, which is promoted (C99 6.8.4.2 paragraphs 1 and 5).
@@ -83,15 +109,8 @@ pub fn group_added(
 ) -> Result<Labelled, OutOfMemory>
     ensures { IfOk result (λ all. labelled_of all ≡ labelled_before (labelled_of first) (labelled labels.items (statement_trees_of body) no_labelled)) }
 {
-    let Labelled {
-        groups,
-        labels: earlier,
-        variables,
-    } = first;
-    let StatementTrees {
-        trees,
-        variables: others,
-    } = body;
+    let (groups, earlier, variables) = first.into_parts();
+    let (trees, others) = body.into_parts();
     let all_labels = labels_of_both(earlier, &labels)?;
     let variables = variables_of_both(variables, others)?;
     let mut all = groups;
@@ -115,11 +134,7 @@ fn laid_switch(
     ensures { IfOk result (λ l. statement_tree_of l ≡ with_tree (labelled_of gs).groups (switch_on (tree_of (typed_expression_of g)) (labelled_of gs).groups.tree)) }
 {
     let on = g.into_tree(alloc)?;
-    let Labelled {
-        groups,
-        variables,
-        ..
-    } = gs;
+    let (groups, _labels, variables) = gs.into_parts();
     with_variables(alloc, TStmt::Switch { on, groups }, variables)
 }
 
@@ -136,5 +151,5 @@ pub fn switch_laid(
     if !distinct {
         return Err(CheckError::At(C7, at));
     }
-    Ok(laid_switch(alloc, g, gs)?)
+    found(laid_switch(alloc, g, gs))
 }

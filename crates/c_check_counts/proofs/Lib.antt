@@ -1,5 +1,10 @@
+pub mod CallLists
+pub mod CallNodes
+pub mod CallRows
 pub mod Lists
 pub mod NameLemmas
 pub mod NextLemmas
 pub mod Nodes
-pub mod Rows
+pub mod SetLemmas
+pub mod TagLists
+pub mod TagNodes

@@ -8,7 +8,7 @@ use Rattle.c_check_scopes.specs.Names.{Name, is_added}
 use Rattle.c_check_scopes.specs.Variables.{Next, first_numbers, names_of_block, past_name, past_names}
 use Rattle.c_check_counts.specs.declared.numbers.Next.{Next as NextTree}
 use Rattle.c_check_counts.specs.Numbered.{AreFirst, HaveNumbers, next_of}
-use Rattle.c_check_counts.specs.Seen.{bytes_of, seen}
+use Rattle.c_syntax.specs.SeenNames.{bytes_of, seen}
 use Rattle.c_syntax.specs.Tree.{BlockItems}
 use Rattle.dm_base.specs.declared.mode.Mode.{Mode}
 

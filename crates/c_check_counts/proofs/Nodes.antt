@@ -11,7 +11,7 @@ use Rattle.c_syntax.specs.UnitView.{stmt_at, stmt_of}
 use Rattle.c_syntax.specs.WritesUnit.{block_items_of, stmts_of, groups_of}
 use Rattle.c_check_scopes.specs.Variables.{names_of_stmt, names_of_block, names_of_stmts, names_of_groups}
 use Rattle.c_check_counts.specs.Named.{names_of_group}
-use Rattle.c_check_counts.proofs.Rows.{block_is, switch_is, group_is}
+use Rattle.c_syntax.proofs.NodeRows.{block_is, switch_is, group_is}
 
 -- ## Names of variables
 

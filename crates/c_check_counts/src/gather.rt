@@ -1,5 +1,5 @@
 ghost use Rattle.std.specs.Prelude.{◌≡◌, ◌∷◌, [], ◌++◌, OnOk};
-ghost use Rattle.c_check_counts.specs.Seen.{seen};
+ghost use Rattle.c_syntax.specs.SeenNames.{seen};
 
 use dm_base::OutOfMemory;
 

@@ -6,7 +6,7 @@ ghost use Rattle.c_syntax.specs.WritesUnit.{block_items_of, stmts_of, groups_of}
 ghost use Rattle.c_check_scopes.specs.Declarators.{name_of};
 ghost use Rattle.c_check_scopes.specs.Variables.{name_or_empty, names_of_parts, names_of_decl, names_of_first, names_of_stmt, names_of_block, names_of_stmts, names_of_groups};
 ghost use Rattle.c_check_counts.specs.Named.{names_of_block_item, names_of_group};
-ghost use Rattle.c_check_counts.specs.Seen.{seen, ident_seen};
+ghost use Rattle.c_syntax.specs.SeenNames.{seen, ident_seen};
 
 use crate::gather::add;
 use c_syntax::{

@@ -4,7 +4,7 @@ ghost use Rattle.c_check_scopes.specs.Functions.{items_of_body};
 ghost use Rattle.c_check_scopes.specs.Limits.{most_local_cells};
 ghost use Rattle.c_check_scopes.specs.Variables.{names_of_block, number_in, past_name, past_names};
 ghost use Rattle.c_check_counts.specs.Numbered.{AreFirst, HaveNumbers, next_of};
-ghost use Rattle.c_check_counts.specs.Seen.{seen};
+ghost use Rattle.c_syntax.specs.SeenNames.{seen};
 
 use crate::names::add_names;
 use c_check_scopes::is_added;

@@ -6,7 +6,7 @@ ghost use Rattle.c_check_scopes.specs.Functions.{declares_function};
 ghost use Rattle.c_check_scopes.specs.Items.{defines};
 ghost use Rattle.c_check_scopes.specs.Units.{functions_of_item, functions_of, objects_of_parts, objects_of_item, objects_of};
 ghost use Rattle.c_check_counts.specs.Named.{is_named, is_object, objects_of_part};
-ghost use Rattle.c_check_counts.specs.Seen.{seen};
+ghost use Rattle.c_syntax.specs.SeenNames.{seen};
 
 use crate::gather::add;
 use crate::names::bytes_of_name;

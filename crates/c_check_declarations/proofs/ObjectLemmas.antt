@@ -5,7 +5,7 @@ use Rattle.c_check_values.specs.declared.error.CheckError.{CheckError}
 use Rattle.c_check_values.specs.declared.error.CheckError.TheVariants as errors
 use Rattle.c_check_values.specs.Agreement.{Names, AgreesWith}
 use Rattle.c_check_values.proofs.Parts.{names_on, names_first}
-use Rattle.c_check_counts.proofs.Rows.{list_is}
+use Rattle.c_syntax.proofs.NodeRows.{list_is}
 use Rattle.c_check_declarations.specs.Texts.{is_unsized, sized_by_count}
 use Rattle.c_rules.specs.Checked.{Checked, fine, faults, demand, on, and_also, gives, Met, met}
 use Rattle.c_rules.specs.Codes.{C13, C14}

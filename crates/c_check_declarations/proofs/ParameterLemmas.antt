@@ -4,8 +4,8 @@ use Rattle.std.specs.Prelude.{Box, ◌&&◌, is_some, not}
 use Rattle.std.proofs.lemmas.List.{take_all}
 use Rattle.c_check_counts.specs.declared.numbers.Next.{Next as NextTree}
 use Rattle.c_check_counts.specs.Numbered.{AreFirst}
-use Rattle.c_check_counts.specs.Seen.{ident_seen}
-use Rattle.c_check_counts.proofs.Rows.{function_is}
+use Rattle.c_syntax.specs.SeenNames.{ident_seen}
+use Rattle.c_syntax.proofs.NodeRows.{function_is}
 use Rattle.c_check_declarations.specs.Named.{name_of_param, stands_alone}
 use Rattle.c_rules.specs.Functions.{parameters_of, is_named, are_named, count_params, with_parameters}
 use Rattle.c_rules.specs.Scopes.{Env}

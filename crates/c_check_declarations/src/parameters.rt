@@ -1,6 +1,6 @@
 ghost use Rattle.std.specs.Prelude.{◌≡◌, IfOk};
 ghost use Rattle.c_check_counts.specs.Numbered.{AreFirst};
-ghost use Rattle.c_check_counts.specs.Seen.{ident_seen};
+ghost use Rattle.c_syntax.specs.SeenNames.{ident_seen};
 ghost use Rattle.c_check_declarations.specs.Named.{name_of_param, stands_alone};
 ghost use Rattle.c_rules.specs.Functions.{parameters_of, is_named, are_named, count_params, items_of_body};
 ghost use Rattle.c_syntax.specs.UnitView.{stmt_of};

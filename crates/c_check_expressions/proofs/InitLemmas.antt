@@ -5,7 +5,7 @@ use Rattle.std.proofs.lemmas.Bool.{ltb-true}
 use Rattle.std.proofs.lemmas.Bool.Decides.{nat_tests}
 use Rattle.std.proofs.lemmas.List.{drop_all, drop_more}
 use Rattle.c_check_initialisers.specs.SlotsLeft.{left_from, slot_at}
-use Rattle.c_check_counts.proofs.Rows.{list_is}
+use Rattle.c_syntax.proofs.NodeRows.{list_is}
 use Rattle.c_check_expressions.proofs.NodeLemmas.{past_none, past_past}
 use Rattle.c_check_types.specs.CheckError.{CheckError}
 use Rattle.c_check_types.specs.CheckError.TheVariants as errors

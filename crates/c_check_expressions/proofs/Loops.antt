@@ -6,7 +6,7 @@ use Rattle.c_syntax.specs.declared.tree.Param.{Param as ParamTree}
 use Rattle.c_syntax.specs.Tree.{Ident, Params}
 use Rattle.c_syntax.specs.View.{expr_of}
 use Rattle.c_syntax.specs.Writes.{exprs_of, params_of}
-use Rattle.c_check_counts.proofs.Rows.{param_is}
+use Rattle.c_syntax.proofs.NodeRows.{param_is}
 use Rattle.c_tree.specs.declared.tree.CType.{CType as TypeTree}
 use Rattle.c_tree.specs.Tree.{CType, CTypes, no_types, more_types}
 use Rattle.c_tree.specs.View.{ctype_of, types_of}

@@ -1,5 +1,5 @@
 -- What each form of an expression gives and counts, by its parts in Rust.
-use Rattle.std.proofs.Common.{◌≡◌, ℕ, ℤ, Bool, ◌+◌, ◌≤◌, suc, drop, List, [], ◌∷◌, ◌++◌, length, Vec, Global, refl, ap, sym, ◌∙◌, arith, append_assoc, append-nil}
+use Rattle.std.proofs.Common.{◌≡◌, ◌⊎◌, inl, inr, ℕ, ℤ, Bool, ◌+◌, ◌≤◌, suc, drop, List, [], ◌∷◌, ◌++◌, length, Vec, Global, refl, ap, sym, ◌∙◌, arith, append_assoc, append-nil}
 use Rattle.std.specs.Prelude.{Box}
 use Rattle.std.proofs.lemmas.List.{drop_all}
 use Rattle.c_syntax.specs.declared.tree.Expr.{Expr as ExprTree}
@@ -9,7 +9,7 @@ use Rattle.c_syntax.specs.declared.tree.ExprKind.{ExprKind, Name, Int, Char, Str
 use Rattle.c_syntax.specs.declared.tree.ExprKind.TheVariants as k
 use Rattle.c_syntax.specs.View.{expr_of, expr_at}
 use Rattle.c_syntax.specs.Writes.{exprs_of}
-use Rattle.c_check_counts.proofs.Rows.{comma_is, call_is}
+use Rattle.c_syntax.proofs.NodeRows.{comma_is, call_is}
 use Rattle.c_rules.specs.Counts.{place_of, calls, strings, calls_of_all, strings_of_all, string_cells, past, after, after_designator}
 use Rattle.c_rules.specs.Scopes.{Before}
 use Rattle.c_rules.specs.Expressions.{value}
@@ -73,17 +73,19 @@ after-Unary b e op a x is p = ap (λ kind. after b (expr_at e.at kind)) is ∙ a
 pub after-Cast : (b : Before) (e : ExprTree) (t : TypeTree) (a : Box ExprTree Global) (x : ExprTree) → e.kind ≡ k.Cast t a → x ≡ a.value → after b (expr_of e) ≡ after b (expr_of x)
 after-Cast b e t a x is p = ap (λ kind. after b (expr_at e.at kind)) is ∙ ap (λ y. after b (expr_of y)) (sym p)
 
-pub after-Index : (b : Before) (e : ExprTree) (l r : Box ExprTree Global) (x y : ExprTree) → e.kind ≡ k.Index l r → x ≡ l.value → y ≡ r.value → after b (expr_of e) ≡ after (after b (expr_of x)) (expr_of y)
-after-Index b e l r x y is p q = ap (λ kind. after b (expr_at e.at kind)) is ∙ ((λ i. past b (calls (expr_of (sym p i)) + calls (expr_of (sym q i))) (strings (expr_of (sym p i)) ++ strings (expr_of (sym q i)))) ∙ after_pair b x y)
+-- the forms with two values
+abbrev pub of_two_values : ExprTree → (l r : Box ExprTree Global) → Type 0
+of_two_values e l r = (e.kind ≡ k.Index l r) ⊎ ((e.kind ≡ k.And l r) ⊎ ((e.kind ≡ k.Or l r) ⊎ ((op : ℕ) × (e.kind ≡ k.Binary op l r))))
 
-pub after-And : (b : Before) (e : ExprTree) (l r : Box ExprTree Global) (x y : ExprTree) → e.kind ≡ k.And l r → x ≡ l.value → y ≡ r.value → after b (expr_of e) ≡ after (after b (expr_of x)) (expr_of y)
-after-And b e l r x y is p q = ap (λ kind. after b (expr_at e.at kind)) is ∙ ((λ i. past b (calls (expr_of (sym p i)) + calls (expr_of (sym q i))) (strings (expr_of (sym p i)) ++ strings (expr_of (sym q i)))) ∙ after_pair b x y)
+after_values : (b : Before) (e : ExprTree) (l r : Box ExprTree Global) → of_two_values e l r → after b (expr_of e) ≡ past b (calls (expr_of l.value) + calls (expr_of r.value)) (strings (expr_of l.value) ++ strings (expr_of r.value))
+after_values b e l r (inl is) = ap (λ kind. after b (expr_at e.at kind)) is
+after_values b e l r (inr (inl is)) = ap (λ kind. after b (expr_at e.at kind)) is
+after_values b e l r (inr (inr (inl is))) = ap (λ kind. after b (expr_at e.at kind)) is
+after_values b e l r (inr (inr (inr h))) = ap (λ kind. after b (expr_at e.at kind)) h.1
 
-pub after-Or : (b : Before) (e : ExprTree) (l r : Box ExprTree Global) (x y : ExprTree) → e.kind ≡ k.Or l r → x ≡ l.value → y ≡ r.value → after b (expr_of e) ≡ after (after b (expr_of x)) (expr_of y)
-after-Or b e l r x y is p q = ap (λ kind. after b (expr_at e.at kind)) is ∙ ((λ i. past b (calls (expr_of (sym p i)) + calls (expr_of (sym q i))) (strings (expr_of (sym p i)) ++ strings (expr_of (sym q i)))) ∙ after_pair b x y)
-
-pub after-Binary : (b : Before) (e : ExprTree) (op : ℕ) (l r : Box ExprTree Global) (x y : ExprTree) → e.kind ≡ k.Binary op l r → x ≡ l.value → y ≡ r.value → after b (expr_of e) ≡ after (after b (expr_of x)) (expr_of y)
-after-Binary b e op l r x y is p q = ap (λ kind. after b (expr_at e.at kind)) is ∙ ((λ i. past b (calls (expr_of (sym p i)) + calls (expr_of (sym q i))) (strings (expr_of (sym p i)) ++ strings (expr_of (sym q i)))) ∙ after_pair b x y)
+pub after_two : (b : Before) (e : ExprTree) (l r : Box ExprTree Global) (x y : ExprTree) → of_two_values e l r → x ≡ l.value → y ≡ r.value → after b (expr_of e) ≡ after (after b (expr_of x)) (expr_of y)
+after_two b e l r x y form p q =
+    after_values b e l r form ∙ ((λ i. past b (calls (expr_of (sym p i)) + calls (expr_of (sym q i))) (strings (expr_of (sym p i)) ++ strings (expr_of (sym q i)))) ∙ after_pair b x y)
 
 pub after-Assign : (b : Before) (e : ExprTree) (op : ℕ) (l r : Box ExprTree Global) (x y : ExprTree) → e.kind ≡ k.Assign op l r → x ≡ l.value → y ≡ r.value → after b (expr_of e) ≡ after (after b (expr_of x)) (expr_of y)
 after-Assign b e op l r x y is p q = ap (λ kind. after b (expr_at e.at kind)) is ∙ ((λ i. past b (calls (expr_of (sym p i)) + calls (expr_of (sym q i))) (strings (expr_of (sym p i)) ++ strings (expr_of (sym q i)))) ∙ after_pair b x y)

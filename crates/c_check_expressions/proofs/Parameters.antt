@@ -2,7 +2,7 @@
 use Rattle.std.proofs.Common.{◌≡◌, ℕ, Bool, true, false, ◌&&◌, List, [], ◌∷◌, Option, Some, None, Result, Ok, Err, OnOk, refl, ap, sym, subst, ◌∙◌}
 use Rattle.std.specs.Prelude.{Box, is_none, is_some, not}
 use Rattle.std.specs.Global.{Global}
-use Rattle.c_check_counts.proofs.Rows.{type_name_is, pointer_is}
+use Rattle.c_syntax.proofs.NodeRows.{type_name_is, pointer_is}
 use Rattle.c_syntax.specs.declared.tree.Declarator.{Declarator as DeclaratorTree}
 use Rattle.c_syntax.specs.declared.tree.DeclaratorKind.{DeclaratorKind, Name, Pointer', Array', Function'}
 use Rattle.c_syntax.specs.declared.tree.DeclaratorKind.TheVariants as dk

@@ -1,5 +1,5 @@
 -- What each form of an expression gives, by its parts in Rust.
-use Rattle.std.proofs.Common.{◌≡◌, ℕ, ℤ, ◌+◌, Bool, true, false, Option, List, Vec, Global, refl, ap, sym, ◌∙◌}
+use Rattle.std.proofs.Common.{◌≡◌, inl, inr, ℕ, ℤ, ◌+◌, Bool, true, false, Option, Result, List, Vec, Global, refl, ap, sym, subst, ◌∙◌}
 use Rattle.std.specs.Prelude.{Box, if◌then◌else◌, nat_eq}
 use Rattle.c_lexer.specs.declared.punctuator.TheConstants.{AMPERSAND}
 use Rattle.c_syntax.specs.declared.tree.Declarator.{Declarator as DeclaratorTree}
@@ -7,18 +7,21 @@ use Rattle.c_syntax.specs.declared.tree.Param.{Param as ParamTree}
 use Rattle.c_syntax.specs.declared.tree.DeclaratorKind.TheVariants as dk
 use Rattle.c_tree.specs.Tree.{CType}
 use Rattle.c_check_types.specs.CheckError.{CheckError}
-use Rattle.c_check_types.specs.Agreement.{Names}
+use Rattle.c_check_types.specs.Agreement.{AgreesWith, Names}
+use Rattle.c_check_types.specs.TypedExpression.{TypedExpression as TypedTree}
+use Rattle.c_check_types.specs.TypedExpressionView.{typed_expression_of}
 use Rattle.c_check_types.proofs.Parts.{names_on, names_second}
 use Rattle.c_rules.specs.TypedExpression.{TypedExpression}
 use Rattle.c_rules.specs.Declarators.{pointer_to, array_of, function_of}
 use Rattle.c_syntax.specs.declared.tree.Expr.{Expr as ExprTree}
 use Rattle.c_syntax.specs.declared.tree.Ident.{Ident as Named}
 use Rattle.c_syntax.specs.declared.tree.TypeName.{TypeName as TypeTree, out-TypeName}
+use Rattle.c_syntax.specs.declared.tree.ExprKind.{ExprKind}
 use Rattle.c_syntax.specs.declared.tree.ExprKind.TheVariants as k
-use Rattle.c_syntax.specs.Tree.{post_increment, post_decrement, pre_increment, pre_decrement, sizeof, dot, arrow}
+use Rattle.c_syntax.specs.Tree.{Expr, post_increment, post_decrement, pre_increment, pre_decrement, sizeof, dot, arrow}
 use Rattle.c_syntax.specs.View.{expr_of, expr_at, type_name_of, ident_of, declarator_of, declarator_at}
 use Rattle.c_syntax.specs.Writes.{exprs_of, params_of, declarator_behind, expr_behind}
-use Rattle.c_check_counts.proofs.Rows.{type_name_is, comma_is, call_is, pointer_is, array_is, function_is}
+use Rattle.c_syntax.proofs.NodeRows.{type_name_is, comma_is, call_is, pointer_is, array_is, function_is}
 use Rattle.c_rules.specs.Checked.{Checked, fine, faulty, faults, on, both, all_three, gives}
 use Rattle.c_rules.specs.Conversions.{valued}
 use Rattle.c_rules.specs.Counts.{place_of, calls, after, after_designator}
@@ -27,10 +30,11 @@ use Rattle.c_rules.specs.Declarators.{is_void_pointer, place_of_type}
 use Rattle.c_rules.specs.PrimaryExpressions.{typed_int, integer_expression, named_expression, string_expression}
 use Rattle.c_rules.specs.PostfixExpressions.{site_of, called}
 use Rattle.c_rules.specs.UnaryExpressions.{size_of_type, indirection, address, unary_of_value, null_cast, cast_of}
-use Rattle.c_rules.specs.BinaryExpressions.{operator_of_code, sum, operation, conjunction, disjunction, choice}
+use Rattle.c_rules.specs.BinaryExpressions.{sum, choice}
 use Rattle.c_rules.specs.Assignments.{assignment_by, comma_of}
 use Rattle.c_rules.specs.Expressions.{tree, trees, value, value_at, place_at, declared, size_in, parameters, type_named, access, after_operand, before_operand, unary_rule, cast_rule, callee}
-use Rattle.c_check_expressions.proofs.NodeLemmas.{place_is}
+use Rattle.c_check_expressions.specs.Parts.{two_rule}
+use Rattle.c_check_expressions.proofs.NodeLemmas.{of_two_values, place_is}
 
 pub tree-Name : (env : Env) (b : Before) (e : ExprTree) (n : List ℕ) → e.kind ≡ k.Name n → tree env b (expr_of e) ≡ named_expression env e.at n
 tree-Name env b e n is = ap (λ kind. tree env b (expr_at e.at kind)) is
@@ -68,17 +72,31 @@ tree-Unary env b e op a x is p = ap (λ kind. tree env b (expr_at e.at kind)) is
 pub tree-Cast : (env : Env) (b : Before) (e : ExprTree) (t : TypeTree) (a : Box ExprTree Global) (x : ExprTree) → e.kind ≡ k.Cast t a → x ≡ a.value → tree env b (expr_of e) ≡ cast_rule (is_void_pointer (type_name_of t)) e.at (type_named env (type_name_of t)) (value env b (expr_of x))
 tree-Cast env b e t a x is p = ap (λ kind. tree env b (expr_at e.at kind)) is ∙ (λ i. cast_rule (is_void_pointer (type_name_of t)) e.at (type_named env (type_name_of t)) (value env b (expr_of (sym p i))))
 
-pub tree-Index : (env : Env) (b : Before) (e : ExprTree) (l : Box ExprTree Global) (r : Box ExprTree Global) (x : ExprTree) (y : ExprTree) → e.kind ≡ k.Index l r → x ≡ l.value → y ≡ r.value → tree env b (expr_of e) ≡ on (both (value env b (expr_of x)) (value env (after b (expr_of x)) (expr_of y)) (sum env e.at)) (indirection e.at)
-tree-Index env b e l r x y is p q = ap (λ kind. tree env b (expr_at e.at kind)) is ∙ (λ i. on (both (value env b (expr_of (sym p i))) (value env (after b (expr_of (sym p i))) (expr_of (sym q i))) (sum env e.at)) (indirection e.at))
+-- the forms with two values
+on_both : {A B C D : Type 0} (p : Checked A) (q : Checked B) (node : A → B → Checked C) (next : C → Checked D) → on (both p q node) next ≡ both p q (λ a b. on (node a b) next)
+on_both (fine a) (fine b) node next = refl
+on_both (fine a) (faulty g gs) node next = refl
+on_both (faulty f fs) q node next = refl
 
-pub tree-And : (env : Env) (b : Before) (e : ExprTree) (l : Box ExprTree Global) (r : Box ExprTree Global) (x : ExprTree) (y : ExprTree) → e.kind ≡ k.And l r → x ≡ l.value → y ≡ r.value → tree env b (expr_of e) ≡ both (value env b (expr_of x)) (value env (after b (expr_of x)) (expr_of y)) (conjunction e.at)
-tree-And env b e l r x y is p q = ap (λ kind. tree env b (expr_at e.at kind)) is ∙ (λ i. both (value env b (expr_of (sym p i))) (value env (after b (expr_of (sym p i))) (expr_of (sym q i))) (conjunction e.at))
+abbrev two_by : Env → Before → Box ExprTree Global → Box ExprTree Global → Expr → Checked TypedExpression
+two_by env b l r form = both (value env b (expr_of l.value)) (value env (after b (expr_of l.value)) (expr_of r.value)) (two_rule env form)
 
-pub tree-Or : (env : Env) (b : Before) (e : ExprTree) (l : Box ExprTree Global) (r : Box ExprTree Global) (x : ExprTree) (y : ExprTree) → e.kind ≡ k.Or l r → x ≡ l.value → y ≡ r.value → tree env b (expr_of e) ≡ both (value env b (expr_of x)) (value env (after b (expr_of x)) (expr_of y)) (disjunction e.at)
-tree-Or env b e l r x y is p q = ap (λ kind. tree env b (expr_at e.at kind)) is ∙ (λ i. both (value env b (expr_of (sym p i))) (value env (after b (expr_of (sym p i))) (expr_of (sym q i))) (disjunction e.at))
+two_from : (env : Env) (b : Before) (e : ExprTree) (l r : Box ExprTree Global) (kind : ExprKind) → e.kind ≡ kind → tree env b (expr_at e.at kind) ≡ two_by env b l r (expr_at e.at kind) → tree env b (expr_of e) ≡ two_by env b l r (expr_of e)
+two_from env b e l r kind is h = ap (λ x. tree env b (expr_at e.at x)) is ∙ h ∙ ap (λ x. two_by env b l r (expr_at e.at x)) (sym is)
 
-pub tree-Binary : (env : Env) (b : Before) (e : ExprTree) (op : ℕ) (l : Box ExprTree Global) (r : Box ExprTree Global) (x : ExprTree) (y : ExprTree) → e.kind ≡ k.Binary op l r → x ≡ l.value → y ≡ r.value → tree env b (expr_of e) ≡ both (value env b (expr_of x)) (value env (after b (expr_of x)) (expr_of y)) (operation env e.at (operator_of_code op))
-tree-Binary env b e op l r x y is p q = ap (λ kind. tree env b (expr_at e.at kind)) is ∙ (λ i. both (value env b (expr_of (sym p i))) (value env (after b (expr_of (sym p i))) (expr_of (sym q i))) (operation env e.at (operator_of_code op)))
+tree_by_two : (env : Env) (b : Before) (e : ExprTree) (l r : Box ExprTree Global) → of_two_values e l r → tree env b (expr_of e) ≡ two_by env b l r (expr_of e)
+tree_by_two env b e l r (inl is) =
+    two_from env b e l r (k.Index l r) is (on_both (value env b (expr_of l.value)) (value env (after b (expr_of l.value)) (expr_of r.value)) (sum env e.at) (indirection e.at))
+tree_by_two env b e l r (inr (inl is)) = two_from env b e l r (k.And l r) is refl
+tree_by_two env b e l r (inr (inr (inl is))) = two_from env b e l r (k.Or l r) is refl
+tree_by_two env b e l r (inr (inr (inr h))) = two_from env b e l r (k.Binary h.0 l r) h.1 refl
+
+pub tree_of_two : (env : Env) (b : Before) (e : ExprTree) (l r : Box ExprTree Global) (x y : ExprTree) → of_two_values e l r → x ≡ l.value → y ≡ r.value → tree env b (expr_of e) ≡ both (value env b (expr_of x)) (value env (after b (expr_of x)) (expr_of y)) (two_rule env (expr_of e))
+tree_of_two env b e l r x y form p q =
+    tree_by_two env b e l r form ∙ (λ i. both (value env b (expr_of (sym p i))) (value env (after b (expr_of (sym p i))) (expr_of (sym q i))) (two_rule env (expr_of e)))
+
+pub two_as : {kind : ExprKind} (result : Result TypedTree CheckError) (env : Env) (e : ExprTree) (a b : TypedExpression) → e.kind ≡ kind → AgreesWith typed_expression_of result (two_rule env (expr_at e.at kind) a b) → AgreesWith typed_expression_of result (two_rule env (expr_of e) a b)
+two_as result env e a b is h = subst (λ x. AgreesWith typed_expression_of result (two_rule env (expr_at e.at x) a b)) (sym is) h
 
 pub tree-Assign : (env : Env) (b : Before) (e : ExprTree) (op : ℕ) (l : Box ExprTree Global) (r : Box ExprTree Global) (x : ExprTree) (y : ExprTree) → e.kind ≡ k.Assign op l r → x ≡ l.value → y ≡ r.value → tree env b (expr_of e) ≡ both (place_at (place_of (expr_of x)) (tree env b (expr_of x))) (value env (after b (expr_of x)) (expr_of y)) (assignment_by env e.at op)
 tree-Assign env b e op l r x y is p q = ap (λ kind. tree env b (expr_at e.at kind)) is ∙ (λ i. both (place_at (place_of (expr_of (sym p i))) (tree env b (expr_of (sym p i)))) (value env (after b (expr_of (sym p i))) (expr_of (sym q i))) (assignment_by env e.at op))

@@ -2,7 +2,7 @@
 use Rattle.std.specs.Prelude.{◌≡◌, ℕ, List, [], ◌∷◌, ◌++◌, Option, Some, None}
 use Rattle.std.specs.Borrow.{Bor}
 use Rattle.c_syntax.specs.declared.tree.Param.{Param as ParamTree, out-Param}
-use Rattle.c_syntax.specs.Tree.{Ident, Expr, a_name}
+use Rattle.c_syntax.specs.Tree.{Ident, Expr, a_name, index, binary}
 use Rattle.c_syntax.specs.View.{spec_of}
 use Rattle.c_syntax.specs.Writes.{declarator_in}
 use Rattle.c_tree.specs.declared.tree.CType.{CType as TypeTree}
@@ -13,7 +13,9 @@ use Rattle.c_rules.specs.Names.{Name}
 use Rattle.c_rules.specs.Scopes.{Env, Binding, Meaning, a_function}
 use Rattle.c_rules.specs.TypedExpression.{TypedExpression}
 use Rattle.c_rules.specs.Declarators.{name_of}
-use Rattle.c_rules.specs.Expressions.{type_of_parameter}
+use Rattle.c_rules.specs.BinaryExpressions.{sum}
+use Rattle.c_rules.specs.Expressions.{type_of_parameter, infix_rule}
+use Rattle.c_rules.specs.UnaryExpressions.{indirection}
 use Rattle.c_check_counts.specs.Environment.{Environment}
 use Rattle.c_check_counts.specs.Bound.{Bound}
 
@@ -60,3 +62,9 @@ function_meant (Some b) = function_of_meaning b.means
 abbrev pub type_seen : Option (Bor TypeTree) → Option CType
 type_seen None = None
 type_seen (Some t) = Some (ctype_of t.now)
+
+-- what a form with two values gives of them
+abbrev pub two_rule : Env → Expr → TypedExpression → TypedExpression → Checked TypedExpression
+two_rule env (index at e f) a b = on (sum env at a b) (indirection at)
+two_rule env (binary at op e f) a b = infix_rule env at op a b
+two_rule env e a b = fine a

@@ -17,12 +17,12 @@ ghost use Rattle.c_tree.specs.View.{ctype_of, types_of};
 use crate::counting::{next_site, next_string};
 use crate::designators::direct_callee;
 use crate::forms::{declare_parameter, is_void_pointer, place_or};
-use crate::nodes::{comma_given, index_given, member_behind, unary_given};
+use crate::nodes::{comma_given, member_behind, two_given, unary_given};
 use c_check_assignments::{
     assignable, assignment_by, cast_of, null_cast, size_of_expression, size_of_type, step,
 };
 use c_check_counts::{Before, Context, Environment, nothing_before};
-use c_check_operators::{choice, conjunction, disjunction, operation, operator_of_code};
+use c_check_operators::choice;
 use c_check_primary::{
     Callee, called, callee_by_value, integer_expression, member_of, named_expression, typed_int,
 };
@@ -33,6 +33,7 @@ use c_check_types::{
 use c_syntax::{Declarator, DeclaratorKind, Expr, ExprKind, Param, Spec, TypeName};
 use c_tree::{BinOp, CType};
 use std::alloc::Global;
+use std::mem;
 
 /// What an expression gives, where so much of the unit stands before it (C99 6.5).
 #[cycle(expression)]
@@ -93,25 +94,13 @@ pub fn tree<'t>(
             let given = tree(alloc, env, before, a)?;
             unary_given(alloc, env, e.at, a.at, *op, given)
         }
-        ExprKind::Index(a, b) => {
+        ExprKind::Index(a, b)
+        | ExprKind::And(a, b)
+        | ExprKind::Or(a, b)
+        | ExprKind::Binary(_, a, b) => {
             let left = value(alloc, env, before, a)?;
             let right = value(alloc, env, before, b)?;
-            index_given(alloc, env, e.at, left, right)
-        }
-        ExprKind::And(a, b) => {
-            let left = value(alloc, env, before, a)?;
-            let right = value(alloc, env, before, b)?;
-            conjunction(alloc, e.at, left, right)
-        }
-        ExprKind::Or(a, b) => {
-            let left = value(alloc, env, before, a)?;
-            let right = value(alloc, env, before, b)?;
-            disjunction(alloc, e.at, left, right)
-        }
-        ExprKind::Binary(op, a, b) => {
-            let left = value(alloc, env, before, a)?;
-            let right = value(alloc, env, before, b)?;
-            operation(alloc, env, e.at, operator_of_code(*op), left, right)
+            two_given(alloc, env, e, left, right)
         }
         ExprKind::Assign(op, a, b) => {
             let target = place(alloc, env, before, a)?;
@@ -172,9 +161,9 @@ fn unevaluated<'t>(
     let outer = env.context;
     env.context = Context::Sized;
     let mut before = nothing_before(alloc);
-    let given = tree(alloc, env, &mut before, e)?;
+    let given = tree(alloc, env, &mut before, e);
     env.context = outer;
-    Ok(given)
+    given
 }
 
 // The values of expressions, in order.
@@ -349,9 +338,9 @@ pub fn folded_value<'t>(
     let outer = env.context;
     env.context = Context::Folded;
     let mut before = nothing_before(alloc);
-    let given = value(alloc, env, &mut before, e)?;
+    let given = value(alloc, env, &mut before, e);
     env.context = outer;
-    Ok(given)
+    given
 }
 
 // The type of a parameter (C99 6.7.5.3 paragraphs 7 and 8).
@@ -397,14 +386,13 @@ fn parameters_apart<'t>(
     ensures judged { AgreesWith (λ v. types_of v.items) result (parameters (inside (env_of env.old)) 0 (params_of params.now)) }
     ensures kept { OnOk result (env.new ≡ env.old) }
 {
-    let outer = env.depth.copy()?;
-    let count = env.names.len();
     let depth = env.depth.one_more()?;
-    env.depth = depth;
-    let types = parameters(alloc, env, params)?;
+    let outer = mem::replace(&mut env.depth, depth);
+    let count = env.names.len();
+    let types = parameters(alloc, env, params);
     env.names.leave(count);
     env.depth = outer;
-    Ok(types)
+    types
 }
 
 /// The type that a declaration gives to what a declarator declares (C99 6.7.5 paragraph 4).

@@ -1,5 +1,5 @@
 ghost use Rattle.std.specs.Prelude.{◌≡◌, suc, IfOk, OnOk};
-ghost use Rattle.c_check_counts.specs.Seen.{ident_seen};
+ghost use Rattle.c_syntax.specs.SeenNames.{ident_seen};
 ghost use Rattle.c_check_expressions.specs.Parts.{Declares, name_of_param};
 ghost use Rattle.c_check_types.specs.Agreement.{AgreesWith};
 ghost use Rattle.c_rules.specs.Checked.{fine};
@@ -81,6 +81,7 @@ fn declare_variable<'t>(
     ensures meant { OnOk result (env_of env.new ≡ with_name (env_of env.old) x.now.name (a_local number (ctype_of ctype.now) (ctype_of ctype.now))) }
     ensures kept { OnOk result (Declares env.old env.new) }
 {
+    let depth = env.depth.copy()?;
     let seen = copy_type(alloc, ctype)?;
     let whole = copy_type(alloc, ctype)?;
     let means = Meaning::Local {
@@ -88,7 +89,6 @@ fn declare_variable<'t>(
         seen,
         whole,
     };
-    let depth = env.depth.copy()?;
     env.names.declare(x.name.as_slice(), depth, means)
 }
 

@@ -1,4 +1,5 @@
 ghost use Rattle.std.specs.Prelude.{map};
+ghost use Rattle.c_check_expressions.specs.Parts.{two_rule};
 ghost use Rattle.c_check_types.specs.Agreement.{AgreesWith};
 ghost use Rattle.c_check_types.specs.TypedExpressionView.{typed_expression_of};
 ghost use Rattle.c_rules.specs.Assignments.{comma_of};
@@ -8,13 +9,15 @@ ghost use Rattle.c_rules.specs.Expressions.{unary_rule};
 ghost use Rattle.c_rules.specs.PostfixExpressions.{member_of};
 ghost use Rattle.c_rules.specs.UnaryExpressions.{indirection};
 ghost use Rattle.c_check_counts.specs.View.{env_of};
+ghost use Rattle.c_syntax.specs.View.{expr_of};
 
 use c_check_assignments::{address, comma_of, indirection, unary_of_value};
 use c_check_counts::Environment;
-use c_check_operators::sum;
+use c_check_operators::{conjunction, disjunction, operation, operator_of_code, sum};
 use c_check_primary::member_of;
 use c_check_types::{CheckError, TypedExpression, valued};
 use c_lexer::punctuator::AMPERSAND;
+use c_syntax::{Expr, ExprKind};
 use std::alloc::Global;
 
 // The comma of these values (C99 6.5.17).
@@ -26,7 +29,7 @@ pub fn comma_given(alloc: Global, gs: Vec<TypedExpression>) -> Result<TypedExpre
 }
 
 // `a[b]`, which is `*(a + b)` (C99 6.5.2.1).
-pub fn index_given(
+fn index_given(
     alloc: Global,
     env: &Environment<'_>,
     at: u32,
@@ -37,6 +40,25 @@ pub fn index_given(
 {
     let pointer = sum(alloc, env, at, a, b)?;
     indirection(alloc, at, pointer)
+}
+
+// What a form with two values gives of them (C99 6.5.2.1, 6.5.5 to 6.5.14); an expression of another form gives the first one.
+pub fn two_given(
+    alloc: Global,
+    env: &Environment<'_>,
+    e: &Expr,
+    a: TypedExpression,
+    b: TypedExpression,
+) -> Result<TypedExpression, CheckError>
+    ensures { AgreesWith typed_expression_of result (two_rule (env_of env.now) (expr_of e.now) (typed_expression_of a) (typed_expression_of b)) }
+{
+    match &e.kind {
+        ExprKind::Index(_, _) => index_given(alloc, env, e.at, a, b),
+        ExprKind::And(_, _) => conjunction(alloc, e.at, a, b),
+        ExprKind::Or(_, _) => disjunction(alloc, e.at, a, b),
+        ExprKind::Binary(op, _, _) => operation(alloc, env, e.at, operator_of_code(*op), a, b),
+        _ => Ok(a),
+    }
 }
 
 // `->` and a member (C99 6.5.2.3).

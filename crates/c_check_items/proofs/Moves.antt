@@ -42,6 +42,11 @@ on_is p k a r is node = ap (λ q. on q k) is ∙ sym node
 pub node_fails : {A B : Type 0} (e : CheckError) (p : Checked A) (k : A → Checked B) (a : A) (r : Checked B) → p ≡ fine a → r ≡ k a → Names e (faults r) → Names e (faults (on p k))
 node_fails e p k a r is node h = same_named e r (on p k) (sym (on_is p k a r is node)) h
 
+-- a demand alone, and what is given where it is met
+pub given_nothing : {X A : Type 0} (a : A) (result : Result X CheckError) (p : Checked Met) → AgreesWith (λ _. met) result p → AgreesWith (λ _. a) result (gives p (λ _. a))
+given_nothing a (Ok x) p h = ap (λ q. gives q (λ _. a)) h
+given_nothing a (Err e) p h = names_on e p (λ _. fine a) h
+
 -- ## Two parts, and the demands on their node
 
 pub both_is : {A B C : Type 0} (p : Checked A) (q : Checked B) (k : A → B → Checked C) (a : A) (b : B) (s : Checked B) → p ≡ fine a → s ≡ q → s ≡ fine b → both p q k ≡ k a b

@@ -94,8 +94,9 @@ fn function_laid(
     ensures { AgreesWith function_of result (function_laid (env_of env.now) (ident_of x.now) (ctype_of returns.now) (types_of types.now) (statement_trees_of laid)) }
 {
     let ctype = function_type(alloc, returns, types)?;
-    let variables = variables_of(alloc, types, laid.variables.plain, laid.variables.added)?;
-    function_with(alloc, env, x, ctype, variables, laid.trees)
+    let (trees, declared) = laid.into_parts();
+    let variables = variables_of(alloc, types, declared.plain, declared.added)?;
+    function_with(alloc, env, x, ctype, variables, trees)
 }
 
 // The demand that each parameter of a definition has a name (C99 6.9.1 paragraph 5), which stands only where its body meets its own.

@@ -64,6 +64,5 @@ pub fn struct_item<'t>(
 pub fn tag_item(env: &Environment<'_>, x: &Ident) -> Result<(), CheckError>
     ensures { AgreesWith (λ _. no_output) result (gives (tag_declaration (env_of env.now) (ident_of x.now)) (λ _. no_output)) }
 {
-    tag_declaration(env, x)?;
-    Ok(())
+    tag_declaration(env, x)
 }

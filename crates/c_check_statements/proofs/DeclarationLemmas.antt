@@ -7,8 +7,8 @@ use Rattle.c_check_declarations.specs.Agreement.{Names, AgreesWith}
 use Rattle.c_check_declarations.proofs.Parts.{names_on, names_first, names_second}
 use Rattle.c_check_bodies.specs.declared.statement_tree.StatementTree.{StatementTree as StatementTreeOfCode}
 use Rattle.c_check_bodies.specs.StatementTreeView.{statement_tree_of}
-use Rattle.c_check_statements.specs.Ruled.{given_seen}
-use Rattle.c_rules.specs.Blocks.{StatementTree, after_part, alone, behind_part, behind_parts, held_by_part, held_by_parts, given_at, is_given, local, local_named, local_of, local_part, local_parts, one_more, past_part, some_more, within_local}
+use Rattle.c_check_statements.specs.Ruled.{given_seen, local_as}
+use Rattle.c_rules.specs.Blocks.{StatementTree, after_part, alone, behind_local, behind_part, behind_parts, held_by_part, held_by_parts, given_at, is_given, local, local_named, local_of, local_part, local_parts, one_more, past_part, some_more, within_local}
 use Rattle.c_rules.specs.Checked.{Checked, fine, faulty, faults, both, gives, on, demand, and_also, fails_with, Met, met}
 use Rattle.c_rules.specs.Codes.{C2, C3, C11, C12}
 use Rattle.c_rules.specs.Counts.{past}
@@ -17,8 +17,8 @@ use Rattle.c_rules.specs.Expressions.{type_declared}
 use Rattle.c_rules.specs.Initialisers.{Slots, copies, each, calls_of_maybe_init, held, held_by, held_in_turn, slots}
 use Rattle.c_rules.specs.Names.{Name, number_among, is_among, given_names, given_types, is_given_type, may_be_declared}
 use Rattle.c_rules.specs.Objects.{Object, object_declared, object_of}
-use Rattle.c_rules.specs.Scopes.{Env, Before, Meaning, with_name, declared_here}
-use Rattle.c_rules.specs.Variables.{Next, calls_of_parts, names_of_parts, past_names}
+use Rattle.c_rules.specs.Scopes.{Env, Before, Meaning, a_local, meaning_or_unknown, with_name, declared_here}
+use Rattle.c_rules.specs.Variables.{Next, calls_of_parts, names_of_parts, number_in, past_names}
 use Rattle.c_check_expressions.proofs.NodeLemmas.{past_past}
 use Rattle.c_check_statements.proofs.StatementLemmas.{alone_and, laid_and, onto_laid, onto_one, more_none}
 use Rattle.c_syntax.specs.declared.tree.DeclPart.{DeclPart}
@@ -131,6 +131,23 @@ module _ (e : CheckError) (env : Env) (b : Before) (next : Next) (x : Ident) (m 
 
   pub object_fails : Names e (faults r) → Names e (faults (local env b next x m r))
   object_fails h = names_second e (new_name env x) (on r within) (λ _ p. fine p) (names_on e r within h)
+
+-- one that is fine, with its object
+module _ (env : Env) (next : Next) (x : Ident) (number : ℕ) (o : Object) (r : Checked Object) (u : Met) (free : new_name env x ≡ fine u) (is : r ≡ fine o) (same : number ≡ number_in next x.name) where
+  itself : (p : Checked (StatementTree typed.Stmt)) → both (fine u) p (λ _ q. fine q) ≡ p
+  itself (fine q) = refl
+  itself (faulty f fs) = refl
+
+  pub local_is : (b : Before) (m : MaybeInit) → local_as env b number x m o ≡ local env b next x m r
+  local_is b m =
+      ap (λ n. local_as env b n x m o) same
+      ∙ (sym (itself (local_as env b (number_in next x.name) x m o))
+      ∙ (λ i. both (sym free i) (on (sym is i) (local_of (with_name env x.name (meaning_or_unknown (on (sym is i) (λ p. gives (sym free i) (λ _. a_local (number_in next x.name) p.seen p.whole))))) b next x m)) (λ _ q. fine q)))
+
+  pub behind_is : with_name env x.name (a_local number o.whole o.whole) ≡ behind_local env next x r
+  behind_is =
+      ap (λ n. with_name env x.name (a_local n o.whole o.whole)) same
+      ∙ (λ i. with_name env x.name (meaning_or_unknown (on (sym is i) (λ p. gives (sym free i) (λ _. a_local (number_in next x.name) p.whole p.whole)))))
 
 -- ## Functions that are declared as they are given
 

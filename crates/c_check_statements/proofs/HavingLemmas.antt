@@ -2,7 +2,7 @@
 use Rattle.std.proofs.Common.{◌≡◌, ℕ, ◌+◌, ◌<◌, List, [], ◌∷◌, ◌++◌, length, drop, get_or, Option, Some, None, ap, sym, subst, ◌∙◌, append-nil}
 use Rattle.std.proofs.lemmas.List.{drop_more}
 use Rattle.c_check_bodies.proofs.NextLemmas.{first_have, later_have}
-use Rattle.c_check_bodies.proofs.Rows.{group_is}
+use Rattle.c_syntax.proofs.NodeRows.{group_is}
 use Rattle.c_check_bodies.specs.Named.{name_of_part, names_of_block_item, names_of_group}
 use Rattle.c_check_bodies.specs.Numbered.{HaveNumbers}
 use Rattle.c_rules.specs.Names.{Name}

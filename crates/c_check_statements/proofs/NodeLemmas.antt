@@ -1,20 +1,19 @@
 -- Forms of statements: their terms, what stands before what follows them, and what they give.
-use Rattle.std.proofs.Common.{◌≡◌, ℕ, suc, ◌+◌, List, [], ◌++◌, Vec, Option, Some, None, Result, Ok, Err, OnOk, ap, sym, subst, ◌∙◌, append_assoc, append-nil, arith}
+use Rattle.std.proofs.Common.{◌≡◌, ℕ, suc, ◌+◌, List, [], ◌++◌, Vec, Option, Some, None, Result, Ok, Err, OnOk, refl, ap, sym, subst, ◌∙◌, append_assoc, append-nil, arith}
 use Rattle.std.specs.Prelude.{Box}
 use Rattle.std.specs.Global.{Global}
-use Rattle.c_check_bodies.proofs.Rows.{block_is, if_is, switch_is}
+use Rattle.c_syntax.proofs.NodeRows.{block_is, if_is, switch_is}
 use Rattle.c_check_declarations.specs.CheckError.{CheckError}
-use Rattle.c_check_declarations.specs.Agreement.{Names}
+use Rattle.c_check_declarations.specs.Agreement.{AgreesWith, Names}
 use Rattle.c_check_bodies.specs.Scoped.{Declares}
 use Rattle.c_rules.specs.Blocks.{StatementTree, after_first, after_stmt, alone, bare, behind_first, held_by_block, held_by_first, held_by_groups, held_by_stmt, joined, one_more, with_tree}
-use Rattle.c_rules.specs.Checked.{Checked, fine, faulty, faults, both, gives}
+use Rattle.c_rules.specs.Checked.{Checked, fine, faulty, faults, both, gives, on}
 use Rattle.c_rules.specs.Counts.{after, after_maybe, calls, calls_of_maybe, past, strings, strings_of_maybe}
 use Rattle.c_rules.specs.Scopes.{Env, Before, inside}
 use Rattle.c_rules.specs.Statements.{Around, items_of_block, stmt}
 use Rattle.c_rules.specs.Variables.{Next, calls_of_block, calls_of_first, calls_of_groups, calls_of_stmt, names_of_first, names_of_stmt, past_names}
 use Rattle.c_rules.specs.Names.{Name}
 use Rattle.c_check_scopes.specs.declared.environment.Environment.{Environment}
-use Rattle.c_check_scopes.specs.View.{env_of}
 use Rattle.c_check_statements.specs.Ruled.{after_for, tested}
 use Rattle.c_check_statements.proofs.PartLemmas.{names_of_three, names_of_two}
 use Rattle.c_check_expressions.proofs.NodeLemmas.{past_past}
@@ -70,9 +69,26 @@ after_parts outer b next first test step s =
 
 -- ## What they give
 
+-- what wants memory alone, by what it gives
+pub found_as : {X A : Type 0} (view : X → A) (r : Result X CheckError) (want : Checked A) (p : A) → want ≡ fine p → AgreesWith view r (fine p) → AgreesWith view r want
+found_as view r want p is h = subst (AgreesWith view r) (sym is) h
+
 -- a part that gives something else
 pub gives_as : {A B : Type 0} (p : Checked A) (f : A → B) (a : A) (b : B) → p ≡ fine a → b ≡ f a → gives p f ≡ fine b
 gives_as p f a b h q = ap (λ r. gives r f) h ∙ ap fine (sym q)
+
+-- what is made of what a part gives
+pub then_given : {A B C : Type 0} (p : Checked A) (f : A → B) (g : B → C) (b : B) → gives p f ≡ fine b → gives p (λ a. g (f a)) ≡ fine (g b)
+then_given (fine a) f g b h = ap (λ r. gives r g) h
+then_given (faulty k ks) f g b h = ap (λ r. gives r g) h
+
+pub then_fails : {A B C : Type 0} (e : CheckError) (p : Checked A) (f : A → B) (g : A → C) → Names e (faults (gives p f)) → Names e (faults (gives p g))
+then_fails e (fine a) f g n = n
+then_fails e (faulty k ks) f g n = n
+
+pub given_twice : {A B C D : Type 0} (p : Checked A) (k : A → Checked B) (f : B → C) (g : C → D) → gives (gives (on p k) f) g ≡ on p (λ a. gives (gives (k a) f) g)
+given_twice (fine a) k f g = refl
+given_twice (faulty e es) k f g = refl
 
 -- a demand that fails in a condition or in the statement behind it
 pub if_fails : (e : CheckError) (env : Env) (a : Around) (b : Before) (next : Next) (at : ℕ) (x : ExprTree) (s : Stmt) (o : Option Stmt) → Names e (faults (tested env a b next at (expr_of x) s)) → Names e (faults (stmt env a b next (if_with at x s o)))
@@ -82,11 +98,8 @@ if_fails e env a b next at x s (Some t) n = names_of_three e _ _ _ _ (λ c p q. 
 -- ## Scopes
 
 -- one block deeper
-pub deeper : (env : Environment) (d : ℕ) → d ≡ suc env.depth → env_of (record env { depth = d }) ≡ inside (env_of env)
-deeper env d h = λ i. env_of (record env { depth = h i })
-
-pub declared_deeper : (outer old : Environment) (d : ℕ) → d ≡ suc outer.depth → Declares (record outer { depth = d }) old → Declares (record outer { depth = suc outer.depth }) old
-declared_deeper outer old d h q = subst (λ n. Declares (record outer { depth = n }) old) h q
+pub declared_deeper : (outer old inner : Environment) → inner ≡ record outer { depth = suc outer.depth } → Declares inner old → Declares (record outer { depth = suc outer.depth }) old
+declared_deeper outer old inner h q = subst (λ e. Declares e old) h q
 
 pub declared_as : (a b c : Environment) → Declares a b → c ≡ b → Declares a c
 declared_as a b c d h = (d.0, h ∙ d.1)

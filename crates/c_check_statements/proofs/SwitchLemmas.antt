@@ -1,7 +1,7 @@
 -- Labels and groups of a switch, one after another.
 use Rattle.std.proofs.Common.{◌≡◌, ℕ, ◌+◌, ◌<◌, ◌≤◌, List, [], ◌∷◌, ◌++◌, length, drop, get_or, refl, ap, sym, subst, ◌∙◌, append_assoc, append-nil}
 use Rattle.std.proofs.lemmas.List.{drop_all, drop_more}
-use Rattle.c_check_bodies.proofs.Rows.{group_is}
+use Rattle.c_syntax.proofs.NodeRows.{group_is}
 use Rattle.c_check_bodies.specs.Named.{names_of_group}
 use Rattle.c_check_declarations.specs.CheckError.{CheckError}
 use Rattle.c_check_declarations.specs.Agreement.{Names}

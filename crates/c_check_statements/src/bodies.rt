@@ -14,7 +14,7 @@ ghost use Rattle.c_syntax.specs.WritesUnit.{block_items_of};
 ghost use Rattle.c_tree.specs.View.{ctype_of};
 
 use crate::statements::{items_of_block, statement};
-use c_check_bodies::{Around, Next, StatementTrees, alone, leave_names};
+use c_check_bodies::{Around, Next, StatementTrees, all_found, alone, leave_names};
 use c_check_declarations::CheckError;
 use c_check_scopes::{Before, Environment};
 use c_syntax::{BlockItem, Stmt, StmtKind};
@@ -68,7 +68,7 @@ fn one_statement<'t>(
     };
     let mut numbers = next;
     let one = statement(alloc, env, &around, before, &mut numbers, s)?;
-    Ok(alone(alloc, one)?)
+    all_found(alone(alloc, one))
 }
 
 /// What the body of a function gives that returns this type, in the scope of its parameters (C99 6.9.1): its variables have the next

@@ -21,8 +21,8 @@ ghost use Rattle.c_tree.specs.View.{ctype_of, expr_of as tree_seen, maybe_of as 
 
 use crate::declarations::local_decl;
 use c_check_bodies::{
-    Next, StatementTree, StatementTrees, alone, bare, no_statements, returned_value, returned_void,
-    switched,
+    Next, StatementTree, StatementTrees, all_found, alone, bare, found, no_statements,
+    returned_value, returned_void, switched,
 };
 use c_check_declarations::{CheckError, TypedExpression, condition};
 use c_check_expressions::value;
@@ -133,7 +133,7 @@ pub fn evaluated<'t>(
     ensures kept { OnOk result (env.new ≡ env.old) }
 {
     let tree = value_tree(alloc, env, before, e)?;
-    Ok(bare(alloc, TStmt::Expr(tree))?)
+    found(bare(alloc, TStmt::Expr(tree)))
 }
 
 // The same in the head of a `for`.
@@ -148,7 +148,7 @@ fn evaluated_first<'t>(
     ensures kept { OnOk result (env.new ≡ env.old) }
 {
     let one = evaluated(alloc, env, before, e)?;
-    Ok(alone(alloc, one)?)
+    all_found(alone(alloc, one))
 }
 
 // What stands first in the head of a `for` (C99 6.8.5.3).

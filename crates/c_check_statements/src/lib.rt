@@ -6,6 +6,7 @@ mod declarations;
 mod heads;
 mod labels;
 mod locals;
+mod loops;
 mod statements;
 
 pub use bodies::body_of;

@@ -20,7 +20,7 @@ ghost use Rattle.c_syntax.specs.UnitView.{maybe_init_of};
 ghost use Rattle.c_syntax.specs.View.{declarator_of, ident_of, spec_of};
 ghost use Rattle.c_tree.specs.Layout.{cells};
 
-use c_check_bodies::{Next, StatementTree, declare_variable, laid_variable, leave_names};
+use c_check_bodies::{Next, StatementTree, declare_variable, found, laid_variable, leave_names};
 use c_check_declarations::{C3, CheckError, Object, TypedExpression, object_of};
 use c_check_expressions::{initialised_local, new_name, type_declared};
 use c_check_scopes::{Before, Environment, given_number, has_given_type};
@@ -99,7 +99,7 @@ fn local_of<'t>(
     let cells = initialised_within(alloc, env, before, number, x, &o, m)?;
     declare_variable(alloc, env, name, number, &o.whole, &o.whole)?;
     let Object { whole, .. } = o;
-    Ok(laid_variable(alloc, name, number, whole, cells)?)
+    found(laid_variable(alloc, name, number, whole, cells))
 }
 
 // The declaration of a variable with this name: its name is new, its type is that of an object, and its initialiser fits.

@@ -25,10 +25,11 @@ ghost use Rattle.c_tree.specs.View.{expr_of as tree_seen};
 use crate::declarations::local_decl;
 use crate::heads::{condition_of, evaluated, first_of, returned, switched_value, tests_of};
 use crate::labels::labels_of;
+use crate::loops::{do_loop, for_loop, while_loop};
 use c_check_bodies::{
-    Around, Labelled, Next, StatementTree, StatementTrees, alone, appended, bare, block,
-    broken_off, continued, do_loop, for_loop, group_added, if_else, in_loop, in_switch, label_type,
-    leave_block, no_labelled, no_statements, only_if, pushed, switch_laid, while_loop,
+    Around, Labelled, Next, StatementTree, StatementTrees, all_found, alone, appended, bare, block,
+    broken_off, continued, enter_block, found, group_added, if_else, in_loop, in_switch,
+    label_type, leave_block, no_labelled, no_statements, only_if, pushed, switch_laid,
 };
 use c_check_declarations::CheckError;
 use c_check_scopes::{Before, Environment};
@@ -55,14 +56,14 @@ pub fn statement<'t>(
 {
     match &s.kind {
         StmtKind::Block(items) => block_statement(alloc, env, around, before, next, items, s.at),
-        StmtKind::Empty => Ok(bare(alloc, TStmt::Empty)?),
+        StmtKind::Empty => found(bare(alloc, TStmt::Empty)),
         StmtKind::Expr(e) => evaluated(alloc, env, before, e),
         StmtKind::If { test, yes, no } => {
             let parts = tested(alloc, env, around, before, next, yes, s.at, test)?;
             let (test, yes) = parts;
             match no {
                 Some(no) => else_part(alloc, env, around, before, next, no, test, yes),
-                None => Ok(only_if(alloc, test, yes)?),
+                None => found(only_if(alloc, test, yes)),
             }
         }
         StmtKind::While { test, body } => {
@@ -105,13 +106,11 @@ fn block_statement<'t>(
     ensures numbered { OnOk result (next_of next.new ≡ past_names (next_of next.old) (names_of_stmt (block at (block_items_of items.now)))) }
     ensures kept { OnOk result (env.new ≡ env.old) }
 {
-    let depth = env.depth.copy()?;
     let count = env.names.len();
-    let deeper = env.depth.one_more()?;
-    env.depth = deeper;
+    let depth = enter_block(env)?;
     let laid = items_of_block(alloc, env, around, before, next, items)?;
     leave_block(env, count, depth);
-    Ok(block(alloc, laid)?)
+    found(block(alloc, laid))
 }
 
 // A condition and the statement behind it.
@@ -156,7 +155,7 @@ fn else_part<'t>(
     ensures kept { OnOk result (env.new ≡ env.old) }
 {
     let no = statement(alloc, env, around, before, next, s)?;
-    Ok(if_else(alloc, test, yes, no)?)
+    found(if_else(alloc, test, yes, no))
 }
 
 // A `while` (C99 6.8.5.1).
@@ -180,7 +179,7 @@ fn while_statement<'t>(
     let inner = in_loop(around);
     let parts = tested(alloc, env, &inner, before, next, body, at, test)?;
     let (condition, laid) = parts;
-    Ok(while_loop(alloc, condition, laid)?)
+    found(while_loop(alloc, condition, laid))
 }
 
 // A `do` (C99 6.8.5.2).
@@ -204,7 +203,7 @@ fn do_statement<'t>(
     let inner = in_loop(around);
     let laid = statement(alloc, env, &inner, before, next, body)?;
     let condition = condition_of(alloc, env, before, at, test)?;
-    Ok(do_loop(alloc, laid, condition)?)
+    found(do_loop(alloc, laid, condition))
 }
 
 // A `for`: what is declared in its head has a scope of its own, round the body (C99 6.8.5.3).
@@ -227,10 +226,8 @@ fn for_statement<'t>(
     ensures numbered { OnOk result (next_of next.new ≡ past_names (next_of next.old) (names_of_stmt (for_loop at (first_of_head first.now) (maybe_of test.now) (maybe_of step.now) (stmt_of body.now)))) }
     ensures kept { OnOk result (env.new ≡ env.old) }
 {
-    let depth = env.depth.copy()?;
     let count = env.names.len();
-    let deeper = env.depth.one_more()?;
-    env.depth = deeper;
+    let depth = enter_block(env)?;
     let laid = for_parts(
         alloc, env, around, before, next, body, at, first, test, step,
     )?;
@@ -263,7 +260,7 @@ fn for_parts<'t>(
     let (test, step) = tests;
     let inner = in_loop(around);
     let laid = statement(alloc, env, &inner, before, next, body)?;
-    Ok(for_loop(alloc, head, test, step, laid)?)
+    found(for_loop(alloc, head, test, step, laid))
 }
 
 // A `switch` (C99 6.8.4.2).
@@ -336,7 +333,7 @@ fn block_item<'t>(
         BlockItem::Declaration(decl) => local_decl(alloc, env, before, next, decl),
         BlockItem::Statement(s) => {
             let one = statement(alloc, env, around, before, next, s)?;
-            Ok(alone(alloc, one)?)
+            all_found(alone(alloc, one))
         }
     }
 }

@@ -4,7 +4,7 @@ use Rattle.std.specs.Prelude.{replicate, reverse}
 use Rattle.std.proofs.lemmas.Bool.{and_parts, ltb-true}
 use Rattle.std.proofs.lemmas.List.{take_more, take_all, map-append}
 use Rattle.dm_base.specs.declared.mode.Mode.{Mode}
-use Rattle.c_check_counts.specs.Seen.{bytes_of, seen}
+use Rattle.c_syntax.specs.SeenNames.{bytes_of, seen}
 use Rattle.c_check_values.specs.Known.{Known}
 use Rattle.c_check_values.specs.Agreement.{Names}
 use Rattle.c_check_values.specs.declared.error.CheckError.TheVariants as errors

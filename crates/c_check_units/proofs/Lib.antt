@@ -1,6 +1,3 @@
-pub mod SetLemmas
-pub mod TagLists
-pub mod TagNodes
 pub mod FormLemmas
 pub mod LaidLemmas
 pub mod OutputLemmas

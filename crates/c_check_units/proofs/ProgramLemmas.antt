@@ -2,7 +2,7 @@
 use Rattle.std.proofs.Common.{◌≡◌, ℕ, zero, suc, ◌+◌, ◌<◌, ◌≤◌, All, List, [], ◌∷◌, ◌++◌, length, map, take, get_or, Bor, ap, sym, subst, ◌∙◌, arith, append_assoc}
 use Rattle.std.proofs.lemmas.List.{map-append, take_all, take_more}
 use Rattle.std.proofs.lemmas.List.Elements.{All-head, All-tail}
-use Rattle.c_check_counts.specs.Seen.{seen, bytes_of}
+use Rattle.c_syntax.specs.SeenNames.{seen, bytes_of}
 use Rattle.c_rules.specs.Limits.{most_cells}
 use Rattle.c_rules.specs.Units.{static_string}
 use Rattle.c_tree.specs.Counts.{AreCounts}

@@ -1,9 +1,8 @@
 -- Read in this order: OutputView (what items define, as the rules have it), Made (the program that is made of what is
 -- known and of what items define), Scoped (scopes inside others).
--- For private contracts and proofs alone: Chars, Forms, Held.
+-- For private contracts and proofs alone: Chars, Forms.
 pub mod Chars
 pub mod Forms
-pub mod Held
 pub mod Made
 pub mod OutputView
 pub mod Scoped

@@ -1,5 +1,5 @@
 ghost use Rattle.std.specs.Prelude.{◌≡◌, ◌&&◌, ◌^◌, length, nat_lt, replicate, IfOk};
-ghost use Rattle.c_check_counts.specs.Seen.{seen};
+ghost use Rattle.c_syntax.specs.SeenNames.{seen};
 ghost use Rattle.c_check_values.specs.Agreement.{AgreesWith};
 ghost use Rattle.c_rules.specs.Checked.{met};
 ghost use Rattle.c_rules.specs.Scopes.{empty_env, incomplete};
@@ -7,8 +7,7 @@ ghost use Rattle.c_rules.specs.Units.{env_before, few_names, functions_of, objec
 ghost use Rattle.c_check_values.specs.View.{env_of, structs_of};
 ghost use Rattle.c_syntax.specs.UnitView.{items_of};
 
-use crate::unit_tags::tags_of;
-use c_check_counts::{functions_of, objects_of};
+use c_check_counts::{functions_of, objects_of, tags_of};
 use c_check_values::{
     C13, CheckError, Context, Environment, FewNames, Numbering, Scopes, StructTable,
 };

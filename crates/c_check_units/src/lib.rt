@@ -1,6 +1,5 @@
-//! Parts of the checker: tags by their numbers, forms of items, and what stands round the items of a unit (C99 6.7, 6.9).
+//! Parts of the checker: forms of items, and what stands round the items of a unit (C99 6.7, 6.9).
 //!
-//! - The tags of structs that stand in a unit of the C profile, in the order of their numbers (C99 6.7.2.3).
 //! - What stands at file scope in the C profile (C99 6.7, 6.9): forms of declarations, what they define, the functions that bodies make,
 //!   and scopes that are left.
 //! - Units of the C profile (C99 6.9): what is known before their items, whether `main` is defined behind them, the static objects that
@@ -10,19 +9,16 @@
 mod bodies;
 mod environments;
 mod forms;
-mod gather;
 mod mains;
 mod outputs;
 mod programs;
 mod scopes;
 mod strings;
 mod structs;
-mod tags;
-mod unit_tags;
 mod units;
 
 pub use bodies::{function_with, variables_of};
-pub use c_check_counts::{Next, name_of};
+pub use c_check_counts::{Next, name_of, push_tags, tag_names, tags_within};
 pub use c_check_values::{C3, C13, CheckError, TypedExpression};
 pub use environments::environment_before;
 pub use forms::{declares_function, defines, place_of_declarator, place_of_expression};
@@ -31,5 +27,4 @@ pub use outputs::{Output, add_function, add_object, no_output};
 pub use programs::{main_number, program_with};
 pub use scopes::{count_names, leave};
 pub use strings::static_string;
-pub use unit_tags::{push_tags, tag_names, tags_of, tags_within};
 pub use units::typed_program;

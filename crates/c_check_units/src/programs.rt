@@ -1,5 +1,5 @@
 ghost use Rattle.std.specs.Prelude.{◌≡◌, ◌<◌, ◌++◌, All, length, map, unwrap_or, codes, IfOk};
-ghost use Rattle.c_check_counts.specs.Seen.{seen};
+ghost use Rattle.c_syntax.specs.SeenNames.{seen};
 ghost use Rattle.c_rules.specs.Limits.{most_cells};
 ghost use Rattle.c_rules.specs.Names.{number_among};
 ghost use Rattle.c_rules.specs.Units.{static_string};

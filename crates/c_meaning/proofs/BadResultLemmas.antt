@@ -1,22 +1,21 @@
 -- A bad result is one of the recorded results: so many were taken, and so many are left.
-use Rattle.std.proofs.Common.{◌≡◌, ℕ, suc, ◌+◌, ◌≤◌, Bool, true, false, if◌then◌else◌, nat_eq, List, [], ◌∷◌, length, subst, arith}
-use Rattle.dm_base.specs.declared.event.Arg.{Arg}
-use Rattle.dm_base.specs.declared.event.Arg.TheVariants as args
+use Rattle.std.proofs.Common.{◌≡◌, ℕ, zero, suc, ◌+◌, ◌≤◌, Bool, true, false, if◌then◌else◌, List, [], ◌∷◌, length, subst, refl, arith}
 use Rattle.dm_base.specs.declared.event.Event.{Event}
 use Rattle.dm_base.specs.declared.event.Event.TheVariants.{Sys}
 use Rattle.dm_base.specs.declared.outcome.Outcome.{Outcome}
-use Rattle.dm_base.specs.declared.outcome.Outcome.TheVariants.{Exit as ended_by, Undefined, Turns, Results, BadResult}
+use Rattle.dm_base.specs.declared.outcome.Outcome.TheVariants.{BadResult}
 use Rattle.sys_table.specs.declared.sys_result.SysResult.{SysResult}
 use Rattle.sys_table.specs.Table.{result_of}
 use Rattle.c_tree.specs.declared.value.Value.{Value}
-use Rattle.c_tree.specs.declared.value.Value.TheVariants.{Indeterminate, Int, Uint, Char, Uchar, Null, Func, At}
+use Rattle.c_tree.specs.declared.value.Value.TheVariants.{Int, Uint}
 use Rattle.c_values.specs.Answers.{Answer, gives, undefined}
 use Rattle.c_values.specs.Memory.{Objects}
-use Rattle.c_meaning.specs.Results.{State, Result, Go, Stop, after, then_do, answered, remembered}
+use Rattle.c_meaning.specs.Results.{State, Result, Go, Stop, after, then_do, spend_at, remembered}
+use Rattle.c_meaning.specs.Meaning.{Marks, null_call}
 use Rattle.c_meaning.specs.Runs.{ending, exit_of, enter, world, beginning, run_with}
-use Rattle.c_meaning.specs.SystemCalls.{Request, system_call, take_record, request, does_answer, exit_with, exit_call, with_records, filled_where, result_value}
+use Rattle.c_meaning.specs.SystemCalls.{Request, take_record, does_answer, with_records, filled_where, result_value}
 use Rattle.c_meaning.specs.BadResults.{BadResultsAreRecorded}
-use Rattle.c_meaning.proofs.Kept.{IsKept, Keeps, run_holds}
+use Rattle.c_meaning.proofs.TwoRuns.{Relates, runs_related}
 
 module _ (n : ℕ) where
   -- so many results are taken or left
@@ -27,57 +26,60 @@ module _ (n : ℕ) where
   Names (BadResult k) = (1 ≤ k) × (k ≤ n)
   Names a = Unit {0}
 
-  counts_kept : IsKept Counts Names
-  counts_kept = record {
-    memory = λ st m i. i;
-    entry = λ st vs i. i;
-    turn = λ st k i. i;
-    undefined = λ kind. tt;
-    no_turns = tt;
-  }
+  -- after a part it is so, and of an outcome that the result is one of them
+  abbrev Keeps : {A : Type 0} → Result A → Type 0
+  Keeps (Go a st w) = Counts st
+  Keeps (Stop o w) = Names o
 
-  stored : (w : List Event) (x : Answer Objects) (v : Value) (st : State) → Counts st → Keeps Counts Names (after w (remembered x v st))
+  kept_after : {A : Type 0} (w : List Event) (r : Result A) → Keeps r → Keeps (after w r)
+  kept_after w (Go a st u) h = h
+  kept_after w (Stop o u) h = h
+
+  kept_then : {A B : Type 0} (r : Result A) (f : A → State → Result B) → Keeps r → ((a : A) (st : State) → Counts st → Keeps (f a st)) → Keeps (then_do r f)
+  kept_then (Go a st w) f h k = kept_after w (f a st) (k a st h)
+  kept_then (Stop o w) f h k = h
+
+  kept_turn : {A : Type 0} (k : ℕ) (st : State) (f : State → Result A) → Counts st → ((st : State) → Counts st → Keeps (f st)) → Keeps (spend_at k st f)
+  kept_turn zero st f i h = tt
+  kept_turn (suc k) st f i h = h _ i
+
+  null_kept : (event : ℕ → Event) (vs : List Value) (st : State) → Counts st → Keeps (null_call event vs st)
+  null_kept event (Uint site ∷ []) st i = i
+  null_kept event vs st i = tt
+
+  stored : (w : List Event) (x : Answer Objects) (v : Value) (st : State) → Counts st → Keeps {A = Value} (after w (remembered x v st))
   stored w (gives m) v st i = i
   stored w (undefined kind) v st i = tt
 
-  taking : (x : ℕ) (q : Request) (rs : List SysResult) (st : State) → st.taken + length rs ≡ n → Keeps Counts Names (take_record x q rs st)
+  taking : (x : ℕ) (q : Request) (rs : List SysResult) (st : State) → st.taken + length rs ≡ n → Keeps {A = Value} (take_record x q rs st)
   taking x q [] st i = tt
   taking x q (r ∷ rs) st i = at (does_answer x q.asked r)
     where
       next : Value
       next = result_value (result_of x) r.value
 
-      at : (b : Bool) → Keeps Counts Names (if b then after (Sys x q.arguments r.value ∷ []) (remembered (filled_where q.buffer r.bytes st.memory) next (with_records st rs)) else Stop (BadResult (suc st.taken)) [])
+      at : (b : Bool) → Keeps {A = Value} (if b then after (Sys x q.arguments r.value ∷ []) (remembered (filled_where q.buffer r.bytes st.memory) next (with_records st rs)) else Stop (BadResult (suc st.taken)) [])
       at true = stored (Sys x q.arguments r.value ∷ []) (filled_where q.buffer r.bytes st.memory) next (with_records st rs) (omega (arith, i))
       at false = (omega arith, omega (arith, i))
 
-  exiting : (xs : List Arg) → Keeps Counts Names (exit_with xs)
-  exiting (args.Int z ∷ []) = tt
-  exiting xs = tt
-
-  calling : (x : ℕ) (vs : List Value) (st : State) → Counts st → Keeps Counts Names (system_call x vs st)
-  calling x vs st i = at (request x st.memory vs)
-    where
-      which : (q : Request) (b : Bool) → Keeps Counts Names (after [] (if b then exit_with q.arguments else take_record x q st.records st))
-      which q true = again (exit_with q.arguments) (exiting q.arguments)
-        where
-          again : (r : Result Value) → Keeps Counts Names r → Keeps Counts Names (after [] r)
-          again (Go v st w) h = h
-          again (Stop o w) h = h
-      which q false = again (take_record x q st.records st) (taking x q st.records st i)
-        where
-          again : (r : Result Value) → Keeps Counts Names r → Keeps Counts Names (after [] r)
-          again (Go v st w) h = h
-          again (Stop o w) h = h
-
-      at : (a : Answer Request) → Keeps Counts Names (then_do (answered a st) (λ q st. if nat_eq x exit_call then exit_with q.arguments else take_record x q st.records st))
-      at (gives q) = which q (nat_eq x exit_call)
-      at (undefined kind) = tt
+  kept : (marks : Marks) → Relates marks marks (λ rs. rs) (λ k. k) Counts Counts ⊥ (λ A r q. Keeps {A = A} r)
+  kept marks = record {
+    joined = λ A B r q f g h k. kept_then {A = A} {B = B} r f h k;
+    go = λ A a st i. i;
+    undefined = λ A kind. tt;
+    marked = λ site r q h. kept_after {A = Value} ((marks site).0) (then_do r (λ v st. Go v st ((marks site).1))) (kept_then {A = Value} {B = Value} r (λ v st. Go v st ((marks site).1)) h (λ v st i. i));
+    memory = λ st o i. i;
+    entry = λ st vs i. i;
+    spend = λ A st f g i h. kept_turn {A = A} st.turns st f i h;
+    ends = λ status. tt;
+    takes = λ x q st i. taking x q st.records st i;
+    null = λ event h vs st i. null_kept event vs st i;
+  }
 
   named : (o : Outcome) (k : ℕ) → o ≡ BadResult k → Names o → (1 ≤ k) × (k ≤ n)
   named o k e h = subst Names e h
 
-  finished : (r : Result Value) → Keeps Counts Names r → Names ((ending r).outcome)
+  finished : (r : Result Value) → Keeps {A = Value} r → Names ((ending r).outcome)
   finished (Go v st w) h = by_value v
     where
       by_value : (v : Value) → Names (exit_of v)
@@ -87,4 +89,6 @@ module _ (n : ℕ) where
 
 pub bad_results_are_recorded : BadResultsAreRecorded
 bad_results_are_recorded p marks records turns k e =
-    named (length records) ((run_with p marks records turns).outcome) k e (finished (length records) (enter p (world p marks turns) marks true p.main [] (beginning p records turns)) (run_holds p marks (Counts (length records)) (Names (length records)) (counts_kept (length records)) (calling (length records)) records turns (omega arith)))
+    let counts = kept (length records) marks in
+    let I = Counts (length records) in
+    named (length records) ((run_with p marks records turns).outcome) k e (finished (length records) (enter p (world p marks turns) marks true p.main [] (beginning p records turns)) (runs_related p marks marks (λ rs. rs) (λ k. k) I I ⊥ _ counts (λ no. absurd no) (λ st i. i) (λ k. refl) (record { enter = λ wanted f vs st i. tt; again = λ fr l h st i. tt }) records turns (omega arith)))

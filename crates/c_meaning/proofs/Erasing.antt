@@ -1,87 +1,82 @@
--- Parts of a program that differ in null calls alone.
-use Rattle.std.proofs.Common.{◌≡◌, ℕ, zero, suc, Bool, true, false, if◌then◌else◌, List, [], ◌∷◌, ◌++◌, sym, ap, ◌∙◌, refl}
+-- The null calls of a word with brackets left out, what is left is a word without brackets.
+use Rattle.std.proofs.Common.{ℕ, ℤ, List, ◌∷◌, Option, ap}
 use Rattle.dm_base.specs.declared.event.Event.{Event}
-use Rattle.dm_base.specs.declared.event.Event.TheVariants.{Pre, Post, Sys}
-use Rattle.dm_base.specs.Trace.{erase, output, written_by}
-use Rattle.c_tree.specs.declared.value.Value.{Value}
-use Rattle.c_meaning.specs.Meaning.{Marks, either, with_marks, tested}
-use Rattle.c_meaning.specs.Results.{State, Result, Go, Stop, after, then_do, spend_at, Exit, on, broken, continued, returned, on_exit, on_round}
-use Rattle.c_meaning.specs.NullCalls.{AreNullCalls}
+use Rattle.dm_base.specs.declared.event.Event.TheVariants as events
+use Rattle.dm_base.specs.Fits.{Fits}
+use Rattle.dm_base.specs.Trace.{erase}
+use Rattle.c_meaning.specs.Shape.{Shape, Shapes, Sys, Exit, Parts, Leave, goes_on, exit_call}
+use Rattle.c_meaning.specs.Words.{brackets, no_brackets, Whole, Rounds, Again, Falls, Picks, Front, FrontFalls, FrontPicks}
+use Rattle.c_meaning.specs.Words as F
 
-pub erase_append : (w u : List Event) → erase (w ++ u) ≡ erase w ++ erase u
-erase_append [] u = refl
-erase_append (Sys name arguments outcome ∷ w) u = ap (λ z. Sys name arguments outcome ∷ z) (erase_append w u)
-erase_append (Pre s ∷ w) u = erase_append w u
-erase_append (Post s ∷ w) u = erase_append w u
+module _ (env : Shapes) where
+  sys_erased : {x : ℕ} {q : List (Option ℤ)} (t : List Event) (e : Event) → Fits x q e → Whole env no_brackets (Sys x q) goes_on (erase (e ∷ t)) (erase t)
+  sys_erased t (events.Sys y arguments outcome) fits = F.sys fits
+  sys_erased t e fits = absurd fits
 
--- what was written is what was written without the null calls
-pub output_erase : (t : List Event) → output (erase t) ≡ output t
-output_erase [] = refl
-output_erase (Sys name arguments outcome ∷ t) = ap (λ z. written_by name arguments outcome ++ z) (output_erase t)
-output_erase (Pre s ∷ t) = output_erase t
-output_erase (Post s ∷ t) = output_erase t
+  exit_erased : {q : List (Option ℤ)} (t : List Event) (e : Event) → Fits exit_call q e → Front env no_brackets (Exit q) (erase (e ∷ t)) (erase t)
+  exit_erased t (events.Sys y arguments outcome) fits = F.exits fits
+  exit_erased t e fits = absurd fits
 
--- a part without its null calls
-abbrev pub bare : {A : Type 0} → Result A → Result A
-bare (Go a st w) = Go a st (erase w)
-bare (Stop o w) = Stop o (erase w)
+  mutual
+    pub whole : {S : Shape} {x : Leave} {t u : List Event} → Whole env brackets S x t u → Whole env no_brackets S x (erase t) (erase u)
+    whole F.skip = F.skip
+    whole (F.sys {e = e} {t = t} fits) = sys_erased t e fits
+    whole (F.call h0 h1 h2 h3 h4) = F.call h0 (ap erase h1) (whole h2) h3 (ap erase h4)
+    whole (F.left h0) = F.left (whole h0)
+    whole (F.right h0) = F.right (whole h0)
+    whole (F.loop_end h0 h1) = F.loop_end (rounds h0) (whole h1)
+    whole (F.loop_break h0 h1 h2) = F.loop_break (rounds h0) (whole h1) (whole h2)
+    whole (F.loop_return h0 h1 h2) = F.loop_return (rounds h0) (whole h1) (whole h2)
+    whole (F.do_end h0 h1 h2 h3) = F.do_end (agains h0) h1 (whole h2) (whole h3)
+    whole (F.do_break h0 h1) = F.do_break (agains h0) (whole h1)
+    whole (F.do_return h0 h1) = F.do_return (agains h0) (whole h1)
+    whole (F.in_order h0) = F.in_order (falls h0)
+    whole (F.cases_end h0) = F.cases_end (picks h0)
+    whole (F.cases_break h0) = F.cases_break (picks h0)
+    whole (F.cases_continue h0) = F.cases_continue (picks h0)
+    whole (F.cases_return h0) = F.cases_return (picks h0)
+    whole F.cases_none = F.cases_none
+    whole F.break_out = F.break_out
+    whole F.continue_on = F.continue_on
+    whole F.return_now = F.return_now
 
--- two parts that differ in null calls alone
-abbrev pub Alike : {A : Type 0} → Result A → Result A → Type 0
-Alike r q = bare r ≡ bare q
+    rounds : {C B P : Shape} {t u : List Event} → Rounds env brackets C B P t u → Rounds env no_brackets C B P (erase t) (erase u)
+    rounds F.none = F.none
+    rounds (F.round h0 h1 h2 h3 h4) = F.round (rounds h0) (whole h1) h2 (whole h3) (whole h4)
 
-bare_after : {A : Type 0} (w : List Event) (r : Result A) → bare (after w r) ≡ after (erase w) (bare r)
-bare_after w (Go a st u) = ap (λ z. Go a st z) (erase_append w u)
-bare_after w (Stop o u) = ap (λ z. Stop o z) (erase_append w u)
+    agains : {B C : Shape} {t u : List Event} → Again env brackets B C t u → Again env no_brackets B C (erase t) (erase u)
+    agains F.first = F.first
+    agains (F.again h0 h1 h2 h3) = F.again (agains h0) h1 (whole h2) (whole h3)
 
-bare_then : {A B : Type 0} (r : Result A) (f : A → State → Result B) → bare (then_do r f) ≡ then_do (bare r) (λ a st. bare (f a st))
-bare_then (Go a st w) f = bare_after w (f a st)
-bare_then (Stop o w) f = refl
+    falls : {ps : Parts} {x : Leave} {t u : List Event} → Falls env brackets ps x t u → Falls env no_brackets ps x (erase t) (erase u)
+    falls F.ended = F.ended
+    falls (F.falls_on h0 h1) = F.falls_on (whole h0) (falls h1)
+    falls (F.falls_away h0 h1) = F.falls_away h0 (whole h1)
 
-pub then_alike : {A B : Type 0} (r q : Result A) (f g : A → State → Result B) → Alike r q → ((a : A) (st : State) → Alike (f a st) (g a st)) → Alike (then_do r f) (then_do q g)
-then_alike {A = A} {B = B} r q f g e h =
-    bare_then r f ∙ (ap (λ r. then_do r (λ a st. bare (f a st))) e ∙ (ap (λ k. then_do (bare q) k) same ∙ sym (bare_then q g)))
-  where
-    left : A → State → Result B
-    left a st = bare (f a st)
+    picks : {ps : Parts} {x : Leave} {t u : List Event} → Picks env brackets ps x t u → Picks env no_brackets ps x (erase t) (erase u)
+    picks (F.this h0) = F.this (falls h0)
+    picks (F.later h0) = F.later (picks h0)
 
-    right : A → State → Result B
-    right a st = bare (g a st)
+  mutual
+    pub front : {S : Shape} {t u : List Event} → Front env brackets S t u → Front env no_brackets S (erase t) (erase u)
+    front F.nothing = F.nothing
+    front (F.all h0) = F.all (whole h0)
+    front (F.exits {e = e} {t = t} fits) = exit_erased t e fits
+    front (F.inside h0 h1 h2) = F.inside h0 (ap erase h1) (front h2)
+    front (F.in_left h0) = F.in_left (front h0)
+    front (F.in_right h0) = F.in_right (front h0)
+    front (F.in_test h0 h1) = F.in_test (rounds h0) (front h1)
+    front (F.in_body h0 h1 h2) = F.in_body (rounds h0) (whole h1) (front h2)
+    front (F.in_step h0 h1 h2 h3 h4) = F.in_step (rounds h0) (whole h1) h2 (whole h3) (front h4)
+    front (F.in_do h0 h1) = F.in_do (agains h0) (front h1)
+    front (F.in_until h0 h1 h2 h3) = F.in_until (agains h0) h1 (whole h2) (front h3)
+    front (F.in_seq h0) = F.in_seq (front_falls h0)
+    front (F.in_cases h0) = F.in_cases (front_picks h0)
 
-    same : left ≡ right
-    same = λ i a st. h a st i
+    front_falls : {ps : Parts} {t u : List Event} → FrontFalls env brackets ps t u → FrontFalls env no_brackets ps (erase t) (erase u)
+    front_falls (F.in_part h0) = F.in_part (front h0)
+    front_falls (F.in_next h0 h1) = F.in_next (whole h0) (front_falls h1)
 
-pub after_alike : {A : Type 0} (w u : List Event) (r q : Result A) → erase w ≡ [] → erase u ≡ [] → Alike r q → Alike (after w r) (after u q)
-after_alike {A = A} w u r q e k h =
-    bare_after w r ∙ (ap (λ z. after z (bare r)) (e ∙ sym k) ∙ (ap (λ z. after (erase u) z) h ∙ sym (bare_after u q)))
-
-pub instrumented_alike : (m n : Marks) → AreNullCalls m → AreNullCalls n → (site : ℕ) (r q : Result Value) → Alike r q → Alike (with_marks m site r) (with_marks n site q)
-instrumented_alike m n hm hn site r q h =
-    after_alike {A = Value} ((m site).0) ((n site).0) (then_do r (λ v st. Go v st ((m site).1))) (then_do q (λ v st. Go v st ((n site).1))) ((hm site).0) ((hn site).0)
-    (then_alike {A = Value} {B = Value} r q (λ v st. Go v st ((m site).1)) (λ v st. Go v st ((n site).1)) h (λ v st. ap (λ z. Go v st z) ((hm site).1 ∙ sym ((hn site).1))))
-
-pub either_alike : {A : Type 0} (holds : Bool) (a b c d : Result A) → Alike a c → Alike b d → Alike (either holds a b) (either holds c d)
-either_alike true a b c d h k = h
-either_alike false a b c d h k = k
-
-pub if_alike : {A : Type 0} (holds : Bool) (a b c d : Result A) → Alike a c → Alike b d → Alike (if holds then a else b) (if holds then c else d)
-if_alike true a b c d h k = h
-if_alike false a b c d h k = k
-
-pub tested_alike : (r q : Result Value) → Alike r q → Alike (tested r) (tested q)
-tested_alike r q h = then_alike {A = Value} {B = Bool} r q _ _ h (λ v st. refl)
-
-pub spend_alike : {A : Type 0} (n : ℕ) (st : State) (f g : State → Result A) → ((st : State) → Alike (f st) (g st)) → Alike (spend_at n st f) (spend_at n st g)
-spend_alike zero st f g h = refl
-spend_alike (suc n) st f g h = h _
-
-pub exit_alike : (x : Exit) (st : State) (f g : State → Result Exit) → ((st : State) → Alike (f st) (g st)) → Alike (on_exit x st f) (on_exit x st g)
-exit_alike on st f g h = h st
-exit_alike broken st f g h = refl
-exit_alike continued st f g h = refl
-exit_alike (returned v) st f g h = refl
-
-pub round_alike : (x : Exit) (st : State) (f g : State → Result Exit) → ((st : State) → Alike (f st) (g st)) → Alike (on_round x st f) (on_round x st g)
-round_alike broken st f g h = refl
-round_alike (returned v) st f g h = refl
-round_alike x st f g h = h st
+    front_picks : {ps : Parts} {t u : List Event} → FrontPicks env brackets ps t u → FrontPicks env no_brackets ps (erase t) (erase u)
+    front_picks (F.from_this h0) = F.from_this (front_falls h0)
+    front_picks (F.from_later h0) = F.from_later (front_picks h0)

@@ -1,5 +1,5 @@
 -- From the error of nesting of a part to that of the whole.
-use Rattle.std.proofs.Common.{◌≡◌, ◌<◌, ◌-◌, ℕ, zero, suc, List, [], ◌∷◌, drop, length, Result, Ok, Err, IsErr, IsErrAnd, refl, sym, subst, arith}
+use Rattle.std.proofs.Common.{◌≡◌, ◌<◌, ◌-◌, ℕ, zero, suc, List, [], ◌∷◌, drop, length, Box, Global, Result, Ok, Err, IsErr, IsErrAnd, refl, sym, subst, arith}
 use Rattle.std.proofs.lemmas.Result.{err_from_is_err_and}
 use Rattle.c_lexer.specs.declared.token.Token.{Token}
 use Rattle.c_lexer.specs.declared.punctuator.TheConstants.{LEFT_BRACE}
@@ -16,7 +16,9 @@ use Rattle.c_syntax_printing.specs.Opens.{Opens, DeepDecl, DeepStmt, DeepBlock}
 use Rattle.c_syntax_printing.proofs.PartOpens.{decl_is_deep}
 use Rattle.c_parser.specs.declared.starts.Compound.{Compound}
 use Rattle.c_parser.specs.declared.starts.Compound.TheVariants as c
-use Rattle.c_parser.specs.Making.{Adds}
+use Rattle.c_parser.specs.Making.{Makes, Adds}
+use Rattle.c_syntax.specs.declared.tree.Stmt.{Stmt as StmtTree}
+use Rattle.c_syntax.specs.Tree.{Stmt}
 use Rattle.c_parser.specs.Starting.{BeginsCompound, BeginsOther}
 use Rattle.c_parser.specs.Nesting.{RefusesPast, Passes, OpensAs, OpensInBlock}
 use Rattle.c_parser.proofs.RoomLemmas.{IsInside}
@@ -90,6 +92,31 @@ adds_none A O room i old new item (Nesting at) p = absurd p
 
 pub memory_wants : {X T : Type 0} (A : Bound → List Token → List Token → Type 0) (O : ℕ → ℕ → ℕ → List Token → List Token → Type 0) (room : Room) (i : List Token) (old new : List X) (item : X) (result : Result T PhraseError) (e : PhraseError) → IsErr result × IsErrAnd result (λ y. y ≡ e) → Adds (Err e) old new item → Passes A O room result i
 memory_wants A O room i old new item result e h p = handed A O room i result e h (adds_none A O room i old new item e p)
+
+-- what a last call answers, where it is returned as it is
+
+pub passes_as : {T : Type 0} (A B : Bound → List Token → List Token → Type 0) (O P : ℕ → ℕ → ℕ → List Token → List Token → Type 0) (room inside : Room) {i j : List Token} (result : Result T PhraseError) → ((r : List Token) → Fails (B (bound_of inside)) j r → Fails (A (bound_of room)) i r)
+    → ((at : ℕ) (q : List Token) → P at inside.pairs inside.nodes j q → O at room.pairs room.nodes i q) → Passes B P inside result j → Passes A O room result i
+passes_as A B O P room inside (Ok x) f g p = tt
+passes_as A B O P room inside (Err e) f g p = past_as A B O P room inside e f g p
+
+-- the same, where the part stands inside one more node
+pub passes_in : {T : Type 0} (A B : Bound → List Token → List Token → Type 0) (O P : ℕ → ℕ → ℕ → List Token → List Token → Type 0) (room : Room) {inside : Room} {i j : List Token} (result : Result T PhraseError) → IsInside room inside → ((r : List Token) → Fails (B (inner (bound_of room))) j r → Fails (A (bound_of room)) i r)
+    → ((at : ℕ) (q : List Token) → P at inside.pairs inside.nodes j q → O at inside.pairs (suc inside.nodes) i q) → Passes B P inside result j → Passes A O room result i
+passes_in A B O P room {inside} {i} {j} result n f g p =
+    passes_as A B O P room inside result (λ r w. f r (subst (λ z. Fails (B z) j r) (inside_is n) w))
+    (λ at q d. subst (λ z. O at room.pairs z i q) (nodes_inside n) (subst (λ z. O at z (suc inside.nodes) i q) n.pairs (g at q d))) p
+
+-- the same, for a node and for an item that is added: nothing but memory was wanting
+pub made_passes : (A : Bound → List Token → List Token → Type 0) (O : ℕ → ℕ → ℕ → List Token → List Token → Type 0) (room : Room) (i : List Token) (result : Result (Box StmtTree Global) PhraseError) (s : Stmt) → Makes result s → Passes A O room result i
+made_passes A O room i (Ok x) s p = tt
+made_passes A O room i (Err OutOfMemory) s p = tt
+made_passes A O room i (Err Syntax) s p = tt
+made_passes A O room i (Err (Nesting at)) s p = absurd p
+
+pub added_passes : {X : Type 0} (A : Bound → List Token → List Token → Type 0) (O : ℕ → ℕ → ℕ → List Token → List Token → Type 0) (room : Room) (i : List Token) (old new : List X) (item : X) (result : Result (Unit {0}) PhraseError) → Adds result old new item → Passes A O room result i
+added_passes A O room i old new item (Ok x) p = tt
+added_passes A O room i old new item (Err e) p = adds_none A O room i old new item e p
 
 -- where one node is sure to be too many
 

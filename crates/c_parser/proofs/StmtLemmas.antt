@@ -1,5 +1,5 @@
 -- Statements, put together of their parts.
-use Rattle.std.proofs.Common.{◌≡◌, ◌<◌, ℕ, List, [], ◌∷◌, refl, sym, ap, ◌∙◌, subst, drop, arith}
+use Rattle.std.proofs.Common.{◌≡◌, ◌<◌, ℕ, Box, Global, Result, Ok, Err, IfOk, OnOk, List, [], ◌∷◌, refl, sym, ap, ◌∙◌, subst, drop, arith}
 use Rattle.c_lexer.specs.declared.token.Token.{Token}
 use Rattle.c_lexer.specs.declared.punctuator.TheConstants.{LEFT_PARENTHESIS, RIGHT_PARENTHESIS, LEFT_BRACE, RIGHT_BRACE, COLON, SEMICOLON}
 use Rattle.c_lexer.specs.declared.keyword.TheConstants.{BREAK, CASE, CONTINUE, DEFAULT, DO, ELSE, FOR, IF, RETURN, SWITCH, WHILE}
@@ -27,10 +27,12 @@ use Rattle.c_parser_phrases.specs.declared.room.Room.{Room}
 use Rattle.c_parser_phrases.specs.Phrases.{HasRead}
 use Rattle.c_parser_phrases.specs.Standing.{IsAt, IsAtKeyword}
 use Rattle.c_parser.specs.Lists.{Goes, Rest, ends, goes_on}
-use Rattle.c_parser.specs.Parsed.{HasCondition, HasMaybe, HasPlainDecl, HasFirst, HasHead, AreLabels, HasStmt, HasNode, HasBlock, AreBlockItems, AreStmts, AreGroups, HasGroups}
+use Rattle.c_parser.specs.Parsed.{HasCondition, HasMaybe, HasPlainDecl, HasFirst, HasHead, AreLabels, HasStmt, HasNode, HasBlock, HasBlockItem, AddsBlockItem, AreBlockItems, AreStmts, AreGroups, HasGroups}
 use Rattle.c_parser.proofs.ListLemmas.{goes_until}
 use Rattle.c_parser.proofs.Ended.{reads_to, stmt_to, after_token}
-use Rattle.c_parser.proofs.RoomLemmas.{IsInside, out_of}
+use Rattle.c_parser_phrases.specs.declared.error.PhraseError.{PhraseError}
+use Rattle.c_parser.specs.Making.{Makes, Adds}
+use Rattle.c_parser.proofs.RoomLemmas.{IsInside, out_of, stmt_from_word}
 
 pub condition_of : {room : Room} {e : Expr} {t u : Token} {i j k m : List Token} → i ≡ t ∷ j → Is LEFT_PARENTHESIS t → HasRead room expression_level e j k → k ≡ u ∷ m → Is RIGHT_PARENTHESIS u → HasCondition room e i m
 condition_of q o r p c = record { left = _; right = _; inside = _; stood = q; opens = o; reads = reads_to p r.reads; closes = c; nested = r.nested }
@@ -170,6 +172,34 @@ block_done {room} {at = at} xs {u = u} {i = t ∷ j} {k = k} {m = m} h p o g r c
 
 pub groups_done : {room : Room} (xs : List Group) {u : Token} {i k m : List Token} → Goes (AreGroups room) (AreGroups room) xs i k → k ≡ u ∷ m → Is RIGHT_BRACE u → HasGroups room xs i m
 groups_done xs g r c = record { right = _; groups = goes_until xs g (record { reads = no_group; nested = omega arith }) r; closes = c }
+
+-- what a last call answers, where it is returned as it is
+
+pub when_read : {T E P : Type 0} (result : Result T E) → P → OnOk result P
+when_read (Ok x) p = p
+when_read (Err e) p = tt
+
+pub stmt_made : {room : Room} (result : Result (Box StmtTree Global) PhraseError) {s : Stmt} {i j : List Token} → Makes result s → HasStmt room s i j → IfOk result (λ b. HasStmt room (stmt_of b.value) i j)
+stmt_made (Ok b) q h = stmt_is q h
+stmt_made (Err e) q h = tt
+
+pub node_made : {room : Room} (result : Result (Box StmtTree Global) PhraseError) {s : Stmt} {i j : List Token} → Makes result s → HasNode room s i j → IfOk result (λ b. HasNode room (stmt_of b.value) i j)
+node_made (Ok b) q h = node_is q h
+node_made (Err e) q h = tt
+
+pub block_made : {room inside : Room} {at : ℕ} (result : Result (Box StmtTree Global) PhraseError) (xs : List BlockItem) {u : Token} (i : List Token) {k m : List Token} → IsInside room inside → at ≡ place i → IsAt LEFT_BRACE i
+    → Goes (AreBlockItems inside) (AreBlockItems inside) xs (drop 1 i) k → k ≡ u ∷ m → Is RIGHT_BRACE u → Makes result (block at (block_items_of xs)) → IfOk result (λ b. HasBlock room (stmt_of b.value) i m)
+block_made (Ok b) xs i h p o g r c q = block_done xs {i = i} h p o g r c q
+block_made (Err e) xs i h p o g r c q = tt
+
+pub word_read : {word at : ℕ} {room inside : Room} (result : Result (Box StmtTree Global) PhraseError) (i : List Token) {j : List Token} (k : List Token) → IsInside room inside → IsAtKeyword word i → j ≡ drop 1 i → at ≡ place i
+    → ((t : Token) → IsKeyword word t → at ≡ t.from → IfOk result (λ b. HasNode inside (stmt_of b.value) (t ∷ j) k)) → IfOk result (λ b. HasStmt room (stmt_of b.value) i k)
+word_read (Ok b) i k h w q p f = stmt_from_word {i = i} h w q p f
+word_read (Err e) i k h w q p f = tt
+
+pub item_added : {room : Room} (result : Result (Unit {0}) PhraseError) (old new : List BlockItem) {item : BlockItem} {i j : List Token} → Adds result old new item → HasBlockItem room item i j → IfOk result (λ _. AddsBlockItem room old new i j)
+item_added (Ok u) old new q h = record { item = _; added = q; stands = h }
+item_added (Err e) old new q h = tt
 
 -- what begins at an equal list
 

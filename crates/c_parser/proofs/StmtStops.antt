@@ -1,5 +1,5 @@
 -- Where statements stop: what fails at a part, and what was read before it, make the failure of the whole.
-use Rattle.std.proofs.Common.{◌≡◌, ℕ, List, ◌∷◌, Result, Err, IsErr, IsErrAnd, refl, sym, subst, arith}
+use Rattle.std.proofs.Common.{◌≡◌, ℕ, List, ◌∷◌, Box, Global, Result, Ok, Err, IsErr, IsErrAnd, refl, sym, subst, arith}
 use Rattle.std.proofs.lemmas.Result.{err_from_is_err_and}
 use Rattle.c_lexer.specs.declared.token.Token.{Token}
 use Rattle.c_lexer.specs.declared.punctuator.TheConstants.{LEFT_PARENTHESIS, RIGHT_PARENTHESIS, LEFT_BRACE, SEMICOLON}
@@ -22,7 +22,8 @@ use Rattle.c_syntax_printing.proofs.Fixed.{expr_fixes, stmt_fixes}
 use Rattle.c_syntax_printing.proofs.PartFails.{maybe_fixes, maybe_fails, first_fixes, else_fails}
 use Rattle.c_parser_phrases.specs.Refusing.{bound_of, Refuses, RefusedFlat, Stops}
 use Rattle.c_parser.specs.Refusing.{KeepsOrNests, ACondition, ABefore, AHead}
-use Rattle.c_parser.specs.Making.{Adds}
+use Rattle.c_parser.specs.Making.{Makes, Adds}
+use Rattle.c_syntax.specs.declared.tree.Stmt.{Stmt as StmtTree}
 use Rattle.c_parser.specs.Parsed.{HasCondition, HasMaybe, HasFirst, HasHead, HasStmt}
 use Rattle.c_parser.specs.declared.nodes.ForHead.{ForHead}
 use Rattle.c_parser.proofs.RoomLemmas.{IsInside}
@@ -86,6 +87,33 @@ adds_none A b i k old new item (Nesting at) p = absurd p
 
 pub only_memory : {X T : Type 0} (A : Bound → List Token → List Token → Type 0) (b : Bound) (i k : List Token) (old new : List X) (item : X) (result : Result T PhraseError) (e : PhraseError) → IsErr result × IsErrAnd result (λ y. y ≡ e) → Adds (Err e) old new item → Stops A b result i k
 only_memory A b i k old new item result e h p = handed A b i k result e h (adds_none A b i k old new item e p)
+
+-- what a last call answers, where it is returned as it is
+
+pub stops_as : {T : Type 0} (A B : Bound → List Token → List Token → Type 0) (b : Bound) {i j : List Token} (k : List Token) (result : Result T PhraseError) → ((x : Bound) (r : List Token) → Fails (B x) j r → Fails (A x) i r) → Stops B b result j k → Stops A b result i k
+stops_as A B b k (Ok x) f s = tt
+stops_as A B b k (Err e) f s = refuses_as A B b k e f s
+
+-- the same, where the part stands inside one more node
+pub stops_in : {T : Type 0} (A B : Bound → List Token → List Token → Type 0) (room : Room) {inside : Room} {i j : List Token} (k : List Token) (result : Result T PhraseError) → IsInside room inside → ((x : Bound) (r : List Token) → Fails (B (inner x)) j r → Fails (A x) i r) → Stops B (bound_of inside) result j k → Stops A (bound_of room) result i k
+stops_in A B room k (Ok x) n f s = tt
+stops_in A B room {inside} {i} {j} k (Err e) n f s = refuses_on A B (bound_of room) (bound_of inside) k e (f any) (λ r g. f (bound_of room) r (subst (λ z. Fails (B z) j r) (inside_is n) g)) s
+
+-- the same, for a part that is told within the limits of one more node
+pub stops_inner : {T : Type 0} (A B : Bound → List Token → List Token → Type 0) (b : Bound) {i j : List Token} (k : List Token) (result : Result T PhraseError) → ((x : Bound) (r : List Token) → Fails (B (inner x)) j r → Fails (A x) i r) → Stops B (inner b) result j k → Stops A b result i k
+stops_inner A B b k (Ok x) f s = tt
+stops_inner A B b k (Err e) f s = refuses_on A B b (inner b) k e (f any) (f b) s
+
+-- the same, for a node and for an item that is added: nothing but memory was wanting
+pub made_stops : (A : Bound → List Token → List Token → Type 0) (b : Bound) (i k : List Token) (result : Result (Box StmtTree Global) PhraseError) (s : Stmt) → Makes result s → Stops A b result i k
+made_stops A b i k (Ok x) s p = tt
+made_stops A b i k (Err OutOfMemory) s p = tt
+made_stops A b i k (Err Syntax) s p = absurd p
+made_stops A b i k (Err (Nesting at)) s p = absurd p
+
+pub added_stops : {X : Type 0} (A : Bound → List Token → List Token → Type 0) (b : Bound) (i k : List Token) (old new : List X) (item : X) (result : Result (Unit {0}) PhraseError) → Adds result old new item → Stops A b result i k
+added_stops A b i k old new item (Ok x) p = tt
+added_stops A b i k old new item (Err e) p = adds_none A b i k old new item e p
 
 -- where there is no room for a node
 pub no_room_left : (room : Room) (i : List Token) (e : PhraseError) → room.nodes ≡ 0 → Refuses AStmt (within room.pairs 0) e i i → Refuses AStmt (bound_of room) e i i

@@ -50,12 +50,10 @@ pub fn statement(
         return Err(no_room(cursor));
     }
     if cursor.is_at(LEFT_BRACE) {
-        let block = block(cursor, alloc, room)?;
-        return Ok(block);
+        return block(cursor, alloc, room);
     }
     let Some(form) = compound_start(cursor) else {
-        let simple = simple(cursor, alloc, room)?;
-        return Ok(simple);
+        return simple(cursor, alloc, room);
     };
     match compound(cursor, alloc, room, form) {
         Ok(compound) => Ok(compound),
@@ -88,26 +86,11 @@ fn compound(
     let inside = room.in_node();
     cursor.skip();
     match form {
-        Compound::If => {
-            let choice = if_statement(cursor, alloc, inside, at)?;
-            Ok(choice)
-        }
-        Compound::While => {
-            let while_loop = while_statement(cursor, alloc, inside, at)?;
-            Ok(while_loop)
-        }
-        Compound::Do => {
-            let do_loop = do_statement(cursor, alloc, inside, at)?;
-            Ok(do_loop)
-        }
-        Compound::For => {
-            let for_loop = for_statement(cursor, alloc, inside, at)?;
-            Ok(for_loop)
-        }
-        Compound::Switch => {
-            let switch = switch_statement(cursor, alloc, inside, at)?;
-            Ok(switch)
-        }
+        Compound::If => if_statement(cursor, alloc, inside, at),
+        Compound::While => while_statement(cursor, alloc, inside, at),
+        Compound::Do => do_statement(cursor, alloc, inside, at),
+        Compound::For => for_statement(cursor, alloc, inside, at),
+        Compound::Switch => switch_statement(cursor, alloc, inside, at),
     }
 }
 
@@ -129,8 +112,7 @@ pub fn block(cursor: &mut Cursor<'_>, alloc: Global, room: Room) -> Result<Box<S
     'next: while !cursor.take(RIGHT_BRACE) {
         block_item(cursor, alloc, inside, &mut items)?;
     }
-    let block = block_node(alloc, at, items)?;
-    Ok(block)
+    block_node(alloc, at, items)
 }
 
 // Reads a declaration or a statement, and adds it to the items.
@@ -148,12 +130,10 @@ fn block_item(
     ensures opens { OnOk result ((at n : ℕ) (q : List Token) → Opens (DeepBlock at room.pairs n) cursor.new.rest.now q → Opens (DeepBlock at room.pairs n) cursor.old.rest.now q) }
 {
     if cursor.is_at_specifier() {
-        block_declaration(cursor, alloc, room, items)?;
-        return Ok(());
+        return block_declaration(cursor, alloc, room, items);
     }
     let statement = statement(cursor, alloc, room)?;
-    add_block_statement(items, statement)?;
-    Ok(())
+    add_block_statement(items, statement)
 }
 
 // Reads what follows `if`.
@@ -173,11 +153,9 @@ fn if_statement(
     let yes = statement(cursor, alloc, room)?;
     if cursor.take_keyword(ELSE) {
         let no = statement(cursor, alloc, room)?;
-        let node = if_else_node(alloc, at, test, yes, no)?;
-        return Ok(node);
+        return if_else_node(alloc, at, test, yes, no);
     }
-    let alone = if_node(alloc, at, test, yes)?;
-    Ok(alone)
+    if_node(alloc, at, test, yes)
 }
 
 // Reads what follows `while`.
@@ -195,8 +173,7 @@ fn while_statement(
 {
     let test = condition(cursor, alloc, room)?;
     let body = statement(cursor, alloc, room)?;
-    let node = while_node(alloc, at, test, body)?;
-    Ok(node)
+    while_node(alloc, at, test, body)
 }
 
 // Reads what follows `do`.
@@ -220,8 +197,7 @@ fn do_statement(
     if !cursor.take(SEMICOLON) {
         return Err(PhraseError::Syntax);
     }
-    let node = do_node(alloc, at, body, test)?;
-    Ok(node)
+    do_node(alloc, at, body, test)
 }
 
 // Reads what follows `for`.
@@ -239,8 +215,7 @@ fn for_statement(
 {
     let head = for_head(cursor, alloc, room)?;
     let body = statement(cursor, alloc, room)?;
-    let node = for_node(alloc, at, head, body)?;
-    Ok(node)
+    for_node(alloc, at, head, body)
 }
 
 // Reads what stands in the parentheses after `for`, with them.
@@ -300,8 +275,7 @@ fn switch_statement(
         return Err(PhraseError::Syntax);
     }
     let groups = groups(cursor, alloc, room)?;
-    let node = switch_node(alloc, at, on, groups)?;
-    Ok(node)
+    switch_node(alloc, at, on, groups)
 }
 
 // Reads groups of labels and statements, through the brace at their end.
@@ -361,34 +335,29 @@ fn simple(cursor: &mut Cursor<'_>, alloc: Global, room: Room) -> Result<Box<Stmt
     let at = cursor.place();
     let inside = room.in_node();
     if cursor.take(SEMICOLON) {
-        let empty = stmt_node(alloc, at, StmtKind::Empty)?;
-        return Ok(empty);
+        return stmt_node(alloc, at, StmtKind::Empty);
     }
     if cursor.take_keyword(BREAK) {
         if !cursor.take(SEMICOLON) {
             return Err(PhraseError::Syntax);
         }
-        let jump = stmt_node(alloc, at, StmtKind::Break)?;
-        return Ok(jump);
+        return stmt_node(alloc, at, StmtKind::Break);
     }
     if cursor.take_keyword(CONTINUE) {
         if !cursor.take(SEMICOLON) {
             return Err(PhraseError::Syntax);
         }
-        let jump = stmt_node(alloc, at, StmtKind::Continue)?;
-        return Ok(jump);
+        return stmt_node(alloc, at, StmtKind::Continue);
     }
     if cursor.take_keyword(RETURN) {
         let value = expression_before(cursor, alloc, inside, SEMICOLON)?;
-        let jump = stmt_node(alloc, at, StmtKind::Return(value))?;
-        return Ok(jump);
+        return stmt_node(alloc, at, StmtKind::Return(value));
     }
     let whole = cursor.expression(alloc, inside)?;
     if !cursor.take(SEMICOLON) {
         return Err(PhraseError::Syntax);
     }
-    let evaluation = stmt_node(alloc, at, StmtKind::Expr(whole))?;
-    Ok(evaluation)
+    stmt_node(alloc, at, StmtKind::Expr(whole))
 }
 
 // Reads a declaration, and adds it to the items.

@@ -9,6 +9,17 @@ use Rattle.c_syntax.specs.Grammar.{primary_level, postfix_level, conditional_lev
 use Rattle.c_syntax_printing.specs.Ranks.{Stops}
 use Rattle.c_parser_phrases.specs.declared.looking.Suffix.{Suffix}
 use Rattle.c_parser_phrases.specs.Looking.{IsSuffix}
+use Rattle.std.specs.Prelude.{Result, Ok, Err}
+use Rattle.c_syntax_printing.specs.Operands.{SomeSuffixes}
+use Rattle.c_syntax_printing.specs.Declarators.{SomeLengthens}
+use Rattle.c_parser_phrases.specs.declared.error.PhraseError.{PhraseError}
+use Rattle.c_parser_phrases.specs.declared.room.Room.{Room}
+use Rattle.c_parser_phrases.specs.declared.form.Form.{Form}
+use Rattle.c_parser_phrases.specs.declared.depth.MeasuredExpr.{MeasuredExpr}
+use Rattle.c_parser_phrases.specs.declared.depth.MeasuredDeclarator.{MeasuredDeclarator}
+use Rattle.c_parser_phrases.specs.Making.{tree_of, inner_of, Makes, MakesDeclarator}
+use Rattle.c_parser_phrases.specs.Reading.{Refused, Lacks, LacksPast, Suits, AddsSuffix, OpensSuffix, AddsPart, OpensPart}
+use Rattle.c_parser_phrases.proofs.Raising.{no_memory}
 
 pub index_adds : {d x at : ℕ} {a b w e : Expr} {t u : Token} {i j k m : List Token} → x ≡ d → Is LEFT_BRACKET t → Reads x expression_level b i j → Is RIGHT_BRACKET u → j ≡ u ∷ k → w ≡ index at a b → Suffixes d at w e k m → Suffixes d at a e (t ∷ i) m
 index_adds {d} {x} {at} {a} {b} {w} {e} {t} {u} {i} {j} {k} {m} p h r c q v s =
@@ -81,3 +92,21 @@ size_read {d} {i = i} {j = j} r q = let P : Maybe → Type 0 = λ z. ReadsSize d
 
 pub size_absent : {d : ℕ} {size : Maybe} {i : List Token} → size ≡ absent → ReadsSize d size i i
 size_absent {d} {i = i} q = let P : Maybe → Type 0 = λ z. ReadsSize d z i i in subst P (sym q) no_size
+
+pub call_adds : {x d at : ℕ} {a w e : Expr} {bs : Exprs} {t : Token} {i j k : List Token} → x ≡ d → w ≡ call at a bs → (Suffixes x at (call at a bs) e j k → Suffixes x at a e (t ∷ i) k) → Suffixes d at w e j k → Suffixes d at a e (t ∷ i) k
+call_adds {x} {d} {at} {a} {w} {e} {bs} {t} {i} {j} {k} p v f s =
+    let R : Expr → Type 0 = λ z. Suffixes d at z e j k in
+    let P : ℕ → Type 0 = λ z. Suffixes z at (call at a bs) e j k in
+    let Q : ℕ → Type 0 = λ z. Suffixes z at a e (t ∷ i) k in
+    subst Q p (f (subst P (sym p) (subst R v s)))
+
+-- what a reader answers that returns a node as it is made
+
+pub suffix_made : (room : Room) {at : ℕ} {a tree : Expr} {t : Token} {i j : List Token} (r : Result MeasuredExpr PhraseError) → Makes r tree → ((w : Expr) → w ≡ tree → (e : Expr) (k : List Token) → Suffixes room.pairs at w e j k → Suffixes room.pairs at a e (t ∷ i) k) → AddsSuffix room at a t r i j
+suffix_made room (Ok m) h f = f (tree_of m) h
+suffix_made room {at} {a} {t = t} {i} {j} (Err e) h f = subst (λ z. Refused (Lacks SomeSuffixes) (OpensSuffix at a) room z (t ∷ i) j) (sym h) no_memory
+
+pub part_made : (room : Room) {at : ℕ} {a tree : Declarator} {i j : List Token} (r : Result MeasuredDeclarator PhraseError) → MakesDeclarator r tree
+    → ((w : Declarator) → w ≡ tree → ((e : Declarator) (k : List Token) → Lengthens room.pairs at w e j k → Lengthens room.pairs at a e i k) × ((form : Form) → Suits form a → Suits form w)) → AddsPart room at a r i j
+part_made room (Ok m) h f = f (inner_of m) h
+part_made room {at} {a} {i = i} {j} (Err e) h f = λ l. subst (λ z. Refused (LacksPast SomeLengthens) (OpensPart at a) room z i j) (sym h) no_memory

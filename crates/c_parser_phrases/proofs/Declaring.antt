@@ -1,6 +1,6 @@
 -- What a reader of a declarator answers at each of its ends, from what the readers that it calls answered.
 use Rattle.std.proofs.Common.{◌⊎◌, inl, inr, ◌≡◌, ◌<◌, ◌≤◌, ◌-◌, ℕ, max, length-append, Bool, true, false, List, [], ◌∷◌, ◌++◌, drop, length, Option, Some, None, Global, sym, ap, ◌∙◌, subst, arith}
-use Rattle.std.specs.Prelude.{Box}
+use Rattle.std.specs.Prelude.{Box, Result, Ok, Err}
 use Rattle.std.specs.Option.{is_some}
 use Rattle.c_lexer.specs.declared.token.Token.{Token}
 use Rattle.c_lexer.specs.declared.punctuator.TheConstants.{LEFT_PARENTHESIS, RIGHT_PARENTHESIS, ASTERISK, COMMA}
@@ -24,10 +24,13 @@ use Rattle.c_parser_phrases.specs.declared.room.Room.{Room}
 use Rattle.c_parser_phrases.specs.declared.depth.MeasuredDeclarator.{MeasuredDeclarator}
 use Rattle.c_parser_phrases.specs.declared.form.Form.{Form}
 use Rattle.c_parser_phrases.specs.declared.form.Form.TheVariants.{Named, Abstract, Either}
-use Rattle.c_parser_phrases.specs.Making.{inner_of, IsVoidAlone}
+use Rattle.c_parser_phrases.specs.Making.{inner_of, MakesDeclarator, IsVoidAlone}
 use Rattle.c_parser_phrases.specs.Phrases.{HasSpec, HasDeclarator}
 use Rattle.c_parser_phrases.specs.Standing.{IsAt, TookName}
-use Rattle.c_parser_phrases.specs.Reading.{Suits, IsParam}
+use Rattle.c_parser_phrases.specs.Reading.{Refused, Lacks, OpensDeclared, ParsesDeclared, ParsesCore, IsCored, Suits, IsParam}
+use Rattle.c_syntax_printing.specs.Declarators.{ADeclared}
+use Rattle.c_parser_phrases.specs.declared.error.PhraseError.{PhraseError}
+use Rattle.c_parser_phrases.proofs.Raising.{no_memory}
 use Rattle.c_parser_phrases.proofs.Exits.{taken_at, suits_pointer, suits_name, suits_nothing, suits_made, pointer_read, named_read, brackets_read}
 use Rattle.c_parser_phrases.proofs.Lists.{each_one, each_more, some_more, some_one, none_read, params_height}
 use Rattle.c_syntax_printing.proofs.Heads.{lengthened_name}
@@ -43,6 +46,15 @@ pointer_made {d} {at = at} {e = e} {w = w} {i = i} {j = j} {m = m} form q p h r 
     let P : Declarator → Type 0 = λ z. Declares d z i m in
     let t = taken_at _ i j h r in
     (subst P (sym v) (pointer_read q p t.1 t.2 c s.0), s.1, suits_made form w (pointer at e) v (suits_pointer form at e s.2))
+
+-- what a reader answers that returns a node as it is made
+pub declared_made : (room : Room) (form : Form) {tree : Declarator} {i j : List Token} (r : Result MeasuredDeclarator PhraseError) → MakesDeclarator r tree → ((w : Declarator) → w ≡ tree → IsDeclared room.pairs form w i j) → ParsesDeclared room form r i j
+declared_made room form (Ok m) h f = f (inner_of m) h
+declared_made room form {i = i} {j = j} (Err e) h f = subst (λ z. Refused (Lacks (ADeclared (Suits form))) (OpensDeclared form) room z i j) (sym h) no_memory
+
+pub core_made : (room : Room) (form : Form) {tree : Declarator} (i : List Token) {j : List Token} (r : Result MeasuredDeclarator PhraseError) → MakesDeclarator r tree → ((w : Declarator) → w ≡ tree → ReadsCore room.pairs w i j × Suits form w × IsCored w i j) → ParsesCore room form r i j
+core_made room form i (Ok m) h f = f (inner_of m) h
+core_made room form i {j = j} (Err e) h f = subst (λ z. Refused (Lacks (ADeclared (Suits form))) (OpensDeclared form) room z i j) (sym h) no_memory
 
 -- what is at hand before the parts of a declarator
 abbrev pub IsCore : ℕ → Form → Declarator → List Token → List Token → Type 0

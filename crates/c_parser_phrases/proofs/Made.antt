@@ -17,10 +17,10 @@ use Rattle.c_parser_phrases.specs.declared.depth.MeasuredExpr.{MeasuredExpr}
 use Rattle.c_parser_phrases.specs.declared.room.Room.{Room}
 use Rattle.c_parser_phrases.specs.declared.error.PhraseError.{PhraseError}
 use Rattle.c_syntax_printing.specs.Phrases.{Bound}
-use Rattle.c_parser_phrases.specs.Reading.{ParsesTree, LacksExpr, OpensExpr}
-use Rattle.c_parser_phrases.proofs.Raising.{raised}
+use Rattle.c_parser_phrases.specs.Reading.{ParsesTree, Refused, LacksExpr, OpensExpr}
+use Rattle.c_parser_phrases.proofs.Raising.{raised, no_memory}
 use Rattle.c_parser_phrases.specs.declared.looking.Operator.{Operator}
-use Rattle.c_parser_phrases.specs.Making.{tree_of}
+use Rattle.c_parser_phrases.specs.Making.{tree_of, Makes}
 use Rattle.c_parser_phrases.specs.Phrases.{HasRead}
 use Rattle.c_parser_phrases.proofs.Lists.{exprs_height}
 use Rattle.c_parser_phrases.specs.declared.looking.Step.{Step}
@@ -213,6 +213,16 @@ pub tree_raised :
     → ParsesTree room k r i j
 tree_raised (Ok m) h f g o = f (tree_of m) h
 tree_raised {l = l} {k} (Err e) h f g o = raised {Q = LacksExpr l} {P = LacksExpr k} {O = OpensExpr l} {U = OpensExpr k} h g o
+
+-- what a reader answers that returns a node as it is made
+
+pub when_read : {T E P : Type 0} (r : Result T E) → P → OnOk r P
+when_read (Ok x) p = p
+when_read (Err e) p = tt
+
+pub tree_made : (room : Room) {l : Level} {tree : Expr} {i j : List Token} (r : Result MeasuredExpr PhraseError) → Makes r tree → ((w : Expr) → w ≡ tree → Stands room.pairs l w i j) → ParsesTree room l r i j
+tree_made room (Ok m) h f = f (tree_of m) h
+tree_made room {l = l} {i = i} {j = j} (Err e) h f = subst (λ z. Refused (LacksExpr l) (OpensExpr l) room z i j) (sym h) no_memory
 
 pub shorter_before : {T E : Type 0} (a : ℕ) {b c : ℕ} (r : Result T E) → OnOk r (a ≤ b) → b < c → OnOk r (a < c)
 shorter_before a (Ok x) h l = omega (arith, h, l)

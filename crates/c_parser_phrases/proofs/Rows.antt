@@ -13,7 +13,7 @@ use Rattle.c_syntax.specs.Limits.{height, height_of_exprs, height_of_declarator,
 use Rattle.c_syntax.specs.View.{params_of_row, expr_at, expr_of, declarator_at}
 use Rattle.c_syntax.specs.Writes.{exprs_of, params_of, declarator_behind, expr_behind}
 use Rattle.c_syntax_printing.specs.Nodes.{place_of_declarator}
-use Rattle.dm_base.specs.declared.memory.OutOfMemory.{OutOfMemory}
+use Rattle.c_parser_phrases.specs.declared.error.PhraseError.{PhraseError}
 use Rattle.c_parser_phrases.specs.declared.depth.Depth.{Depth}
 use Rattle.c_parser_phrases.specs.declared.depth.MeasuredExpr.{MeasuredExpr}
 use Rattle.c_parser_phrases.specs.declared.depth.MeasuredDeclarator.{MeasuredDeclarator}
@@ -71,19 +71,19 @@ place_is_declarator at (Function' held shape row) = refl
 
 -- what was made, said of the same node and the same depth
 
-pub made_as : {x y : Expr} (r : Result MeasuredExpr OutOfMemory) → x ≡ y → Makes r x → Makes r y
+pub made_as : {x y : Expr} (r : Result MeasuredExpr PhraseError) → x ≡ y → Makes r x → Makes r y
 made_as r q h = subst (λ z. Makes r z) q h
 
-pub high_as : {m n : ℕ} (r : Result MeasuredExpr OutOfMemory) → m ≡ n → IfOk r (λ w. w.depth.height ≡ suc m) → IfOk r (λ w. w.depth.height ≡ suc n)
+pub high_as : {m n : ℕ} (r : Result MeasuredExpr PhraseError) → m ≡ n → IfOk r (λ w. w.depth.height ≡ suc m) → IfOk r (λ w. w.depth.height ≡ suc n)
 high_as r q h = subst (λ z. IfOk r (λ w. w.depth.height ≡ suc z)) q h
 
 pub inside_as : {x y : Expr} {d : Depth} → x ≡ y → IsInside d y → IsInside d x
 inside_as {d = d} q h = subst (λ z. IsInside d z) (sym q) h
 
-pub made_declarator_as : {x y : Declarator} (r : Result MeasuredDeclarator OutOfMemory) → x ≡ y → MakesDeclarator r x → MakesDeclarator r y
+pub made_declarator_as : {x y : Declarator} (r : Result MeasuredDeclarator PhraseError) → x ≡ y → MakesDeclarator r x → MakesDeclarator r y
 made_declarator_as r q h = subst (λ z. MakesDeclarator r z) q h
 
-pub high_declarator_as : {m n : ℕ} (r : Result MeasuredDeclarator OutOfMemory) → m ≡ n → IfOk r (λ w. w.depth.height ≡ suc m) → IfOk r (λ w. w.depth.height ≡ suc n)
+pub high_declarator_as : {m n : ℕ} (r : Result MeasuredDeclarator PhraseError) → m ≡ n → IfOk r (λ w. w.depth.height ≡ suc m) → IfOk r (λ w. w.depth.height ≡ suc n)
 high_declarator_as r q h = subst (λ z. IfOk r (λ w. w.depth.height ≡ suc z)) q h
 
 pub inside_declarator_as : {x y : Declarator} {d : Depth} → x ≡ y → IsInsideDeclarator d y → IsInsideDeclarator d x

@@ -7,7 +7,8 @@ use Rattle.c_syntax.specs.Tree.{Expr, Exprs, Maybe, Spec, void, Declarator, noth
 use Rattle.c_syntax.specs.Grammar.{AreSome}
 use Rattle.c_syntax.specs.View.{expr_at, expr_of}
 use Rattle.c_syntax.specs.Writes.{exprs_of, params_of, declarator_behind, expr_behind}
-use Rattle.dm_base.specs.declared.memory.OutOfMemory.{OutOfMemory}
+use Rattle.c_parser_phrases.specs.declared.error.PhraseError.{PhraseError}
+use Rattle.c_parser_phrases.specs.declared.error.PhraseError.TheVariants.{OutOfMemory}
 use Rattle.c_parser_phrases.specs.declared.depth.MeasuredExpr.{MeasuredExpr}
 use Rattle.c_parser_phrases.specs.declared.depth.MeasuredExprs.{MeasuredExprs}
 use Rattle.c_parser_phrases.specs.declared.depth.MeasuredSize.{MeasuredSize}
@@ -32,13 +33,13 @@ inner_of m = declarator_behind m.tree
 abbrev pub list_of : MeasuredParams → Params
 list_of m = params_of m.params.items
 
-abbrev pub Makes : Result MeasuredExpr OutOfMemory → Expr → Type 0
+abbrev pub Makes : Result MeasuredExpr PhraseError → Expr → Type 0
 Makes (Ok m) tree = tree_of m ≡ tree
-Makes (Err e) tree = Unit {0}
+Makes (Err e) tree = e ≡ OutOfMemory
 
-abbrev pub MakesDeclarator : Result MeasuredDeclarator OutOfMemory → Declarator → Type 0
+abbrev pub MakesDeclarator : Result MeasuredDeclarator PhraseError → Declarator → Type 0
 MakesDeclarator (Ok m) tree = inner_of m ≡ tree
-MakesDeclarator (Err e) tree = Unit {0}
+MakesDeclarator (Err e) tree = e ≡ OutOfMemory
 
 -- the node of ++ or --, at each place
 abbrev pub IsStep : ExprKind → Step → Box ExprTree Global → Type 0

@@ -14,9 +14,9 @@ use crate::depth::{
     Depth, MeasuredDeclarator, MeasuredExpr, MeasuredExprs, MeasuredParam, MeasuredParams,
     MeasuredSize, MeasuredType,
 };
+use crate::error::PhraseError;
 use crate::looking::{Infix, Step};
 use c_syntax::{Declarator, DeclaratorKind, Expr, ExprKind, Ident, Param, Spec, TypeName};
-use dm_base::OutOfMemory;
 use std::alloc::Global;
 
 // The node at the place, around what has the depth.
@@ -25,7 +25,7 @@ fn measured(
     at: u32,
     kind: ExprKind,
     inside: Depth,
-) -> Result<MeasuredExpr, OutOfMemory>
+) -> Result<MeasuredExpr, PhraseError>
     requires low { inside.height < 4294967295 }
     requires exact { suc (inside.height) ≡ height (expr_at at kind) }
     ensures makes { Makes result (expr_at at kind) }
@@ -38,7 +38,7 @@ fn measured(
     })
 }
 
-pub fn comma_node(alloc: Global, at: u32, list: MeasuredExprs) -> Result<MeasuredExpr, OutOfMemory>
+pub fn comma_node(alloc: Global, at: u32, list: MeasuredExprs) -> Result<MeasuredExpr, PhraseError>
     requires { list.depth.height < 4294967295 }
     ensures makes { Makes result (comma at (trees_of list)) }
     ensures height { IfOk result (λ m. m.depth.height ≡ suc (list.depth.height)) }
@@ -51,7 +51,7 @@ pub fn sizeof_type_node(
     alloc: Global,
     at: u32,
     target: MeasuredType,
-) -> Result<MeasuredExpr, OutOfMemory>
+) -> Result<MeasuredExpr, PhraseError>
     requires { target.depth.height < 4294967295 }
     ensures makes { Makes result (sizeof_type at (type_name_of target.name)) }
     ensures height { IfOk result (λ m. m.depth.height ≡ suc (target.depth.height)) }
@@ -65,7 +65,7 @@ pub fn cast_node(
     at: u32,
     target: MeasuredType,
     a: MeasuredExpr,
-) -> Result<MeasuredExpr, OutOfMemory>
+) -> Result<MeasuredExpr, PhraseError>
     requires target_low { target.depth.height < 4294967295 }
     requires a_low { a.depth.height < 4294967295 }
     ensures makes { Makes result (cast at (type_name_of target.name) (tree_of a)) }
@@ -85,7 +85,7 @@ pub fn call_node(
     at: u32,
     a: MeasuredExpr,
     list: MeasuredExprs,
-) -> Result<MeasuredExpr, OutOfMemory>
+) -> Result<MeasuredExpr, PhraseError>
     requires a_low { a.depth.height < 4294967295 }
     requires list_low { list.depth.height < 4294967295 }
     ensures makes { Makes result (call at (tree_of a) (trees_of list)) }
@@ -105,7 +105,7 @@ pub fn member_node(
     at: u32,
     a: MeasuredExpr,
     name: Ident,
-) -> Result<MeasuredExpr, OutOfMemory>
+) -> Result<MeasuredExpr, PhraseError>
     requires { a.depth.height < 4294967295 }
     ensures makes { Makes result (member at dot (tree_of a) (ident_of name)) }
     ensures height { IfOk result (λ m. m.depth.height ≡ suc (a.depth.height)) }
@@ -119,7 +119,7 @@ pub fn arrow_node(
     at: u32,
     a: MeasuredExpr,
     name: Ident,
-) -> Result<MeasuredExpr, OutOfMemory>
+) -> Result<MeasuredExpr, PhraseError>
     requires { a.depth.height < 4294967295 }
     ensures makes { Makes result (member at arrow (tree_of a) (ident_of name)) }
     ensures height { IfOk result (λ m. m.depth.height ≡ suc (a.depth.height)) }
@@ -128,7 +128,7 @@ pub fn arrow_node(
     measured(alloc, at, ExprKind::Arrow(a.tree, name), a.depth)
 }
 
-pub fn increased_node(alloc: Global, at: u32, a: MeasuredExpr) -> Result<MeasuredExpr, OutOfMemory>
+pub fn increased_node(alloc: Global, at: u32, a: MeasuredExpr) -> Result<MeasuredExpr, PhraseError>
     requires { a.depth.height < 4294967295 }
     ensures makes { Makes result (postfix at post_increment (tree_of a)) }
     ensures height { IfOk result (λ m. m.depth.height ≡ suc (a.depth.height)) }
@@ -137,7 +137,7 @@ pub fn increased_node(alloc: Global, at: u32, a: MeasuredExpr) -> Result<Measure
     measured(alloc, at, ExprKind::PostInc(a.tree), a.depth)
 }
 
-pub fn decreased_node(alloc: Global, at: u32, a: MeasuredExpr) -> Result<MeasuredExpr, OutOfMemory>
+pub fn decreased_node(alloc: Global, at: u32, a: MeasuredExpr) -> Result<MeasuredExpr, PhraseError>
     requires { a.depth.height < 4294967295 }
     ensures makes { Makes result (postfix at post_decrement (tree_of a)) }
     ensures height { IfOk result (λ m. m.depth.height ≡ suc (a.depth.height)) }
@@ -160,7 +160,7 @@ pub fn step_node(
     at: u32,
     step: Step,
     a: MeasuredExpr,
-) -> Result<MeasuredExpr, OutOfMemory>
+) -> Result<MeasuredExpr, PhraseError>
     requires { a.depth.height < 4294967295 }
     ensures makes { Makes result (prefix at (step_of step) (tree_of a)) }
     ensures height { IfOk result (λ m. m.depth.height ≡ suc (a.depth.height)) }
@@ -169,7 +169,7 @@ pub fn step_node(
     measured(alloc, at, step_kind(step, a.tree), a.depth)
 }
 
-pub fn sizeof_node(alloc: Global, at: u32, a: MeasuredExpr) -> Result<MeasuredExpr, OutOfMemory>
+pub fn sizeof_node(alloc: Global, at: u32, a: MeasuredExpr) -> Result<MeasuredExpr, PhraseError>
     requires { a.depth.height < 4294967295 }
     ensures makes { Makes result (prefix at sizeof (tree_of a)) }
     ensures height { IfOk result (λ m. m.depth.height ≡ suc (a.depth.height)) }
@@ -183,7 +183,7 @@ pub fn unary_node(
     at: u32,
     operator: u8,
     a: MeasuredExpr,
-) -> Result<MeasuredExpr, OutOfMemory>
+) -> Result<MeasuredExpr, PhraseError>
     requires { a.depth.height < 4294967295 }
     ensures makes { Makes result (unary at operator (tree_of a)) }
     ensures height { IfOk result (λ m. m.depth.height ≡ suc (a.depth.height)) }
@@ -197,7 +197,7 @@ pub fn index_node(
     at: u32,
     a: MeasuredExpr,
     b: MeasuredExpr,
-) -> Result<MeasuredExpr, OutOfMemory>
+) -> Result<MeasuredExpr, PhraseError>
     requires a_low { a.depth.height < 4294967295 }
     requires b_low { b.depth.height < 4294967295 }
     ensures makes { Makes result (index at (tree_of a) (tree_of b)) }
@@ -228,7 +228,7 @@ pub fn binary_node(
     between: Infix,
     a: MeasuredExpr,
     b: MeasuredExpr,
-) -> Result<MeasuredExpr, OutOfMemory>
+) -> Result<MeasuredExpr, PhraseError>
     requires a_low { a.depth.height < 4294967295 }
     requires b_low { b.depth.height < 4294967295 }
     ensures makes { Makes result (binary at (infix_of between) (tree_of a) (tree_of b)) }
@@ -249,7 +249,7 @@ pub fn assign_node(
     operator: u8,
     a: MeasuredExpr,
     b: MeasuredExpr,
-) -> Result<MeasuredExpr, OutOfMemory>
+) -> Result<MeasuredExpr, PhraseError>
     requires a_low { a.depth.height < 4294967295 }
     requires b_low { b.depth.height < 4294967295 }
     ensures makes { Makes result (assign at operator (tree_of a) (tree_of b)) }
@@ -270,7 +270,7 @@ pub fn conditional_node(
     a: MeasuredExpr,
     b: MeasuredExpr,
     c: MeasuredExpr,
-) -> Result<MeasuredExpr, OutOfMemory>
+) -> Result<MeasuredExpr, PhraseError>
     requires a_low { a.depth.height < 4294967295 }
     requires b_low { b.depth.height < 4294967295 }
     requires c_low { c.depth.height < 4294967295 }
@@ -320,7 +320,7 @@ fn measured_declarator(
     at: u32,
     kind: DeclaratorKind,
     inside: Depth,
-) -> Result<MeasuredDeclarator, OutOfMemory>
+) -> Result<MeasuredDeclarator, PhraseError>
     requires low { inside.height < 4294967295 }
     requires exact { suc (inside.height) ≡ height_of_declarator (declarator_at at kind) }
     ensures makes { MakesDeclarator result (declarator_at at kind) }
@@ -344,7 +344,7 @@ pub fn no_declarator(at: u32) -> MeasuredDeclarator
     }
 }
 
-pub fn name_node(alloc: Global, at: u32, name: Ident) -> Result<MeasuredDeclarator, OutOfMemory>
+pub fn name_node(alloc: Global, at: u32, name: Ident) -> Result<MeasuredDeclarator, PhraseError>
     ensures makes { MakesDeclarator result (named at (ident_of name)) }
     ensures height { IfOk result (λ m. m.depth.height ≡ 1) }
     ensures deep { IfOk result (λ m. IsDeepDeclarator m) }
@@ -356,7 +356,7 @@ pub fn pointer_node(
     alloc: Global,
     at: u32,
     a: MeasuredDeclarator,
-) -> Result<MeasuredDeclarator, OutOfMemory>
+) -> Result<MeasuredDeclarator, PhraseError>
     requires { a.depth.height < 4294967295 }
     ensures makes { MakesDeclarator result (pointer at (inner_of a)) }
     ensures height { IfOk result (λ m. m.depth.height ≡ suc (a.depth.height)) }
@@ -370,7 +370,7 @@ pub fn array_node(
     at: u32,
     a: MeasuredDeclarator,
     size: MeasuredSize,
-) -> Result<MeasuredDeclarator, OutOfMemory>
+) -> Result<MeasuredDeclarator, PhraseError>
     requires a_low { a.depth.height < 4294967295 }
     requires size_low { size.depth.height < 4294967295 }
     ensures makes { MakesDeclarator result (array at (inner_of a) (size_of size)) }
@@ -389,7 +389,7 @@ pub fn function_node(
     at: u32,
     a: MeasuredDeclarator,
     list: MeasuredParams,
-) -> Result<MeasuredDeclarator, OutOfMemory>
+) -> Result<MeasuredDeclarator, PhraseError>
     requires a_low { a.depth.height < 4294967295 }
     requires list_low { list.depth.height < 4294967295 }
     ensures makes { MakesDeclarator result (function at (inner_of a) (list_of list)) }
@@ -404,7 +404,7 @@ pub fn function_node(
 }
 
 // A leaf of an expression, at the place.
-pub fn leaf_node(alloc: Global, at: u32, kind: ExprKind) -> Result<MeasuredExpr, OutOfMemory>
+pub fn leaf_node(alloc: Global, at: u32, kind: ExprKind) -> Result<MeasuredExpr, PhraseError>
     requires { height (expr_at at kind) ≡ 1 }
     ensures makes { Makes result (expr_at at kind) }
     ensures height { IfOk result (λ m. m.depth.height ≡ 1) }

@@ -33,8 +33,7 @@ impl<'a> Cursor<'a> {
             TokenKind::Name(name) => {
                 let bytes = Bytes::of(alloc, name.as_slice())?;
                 self.rest = more;
-                let leaf = leaf_node(alloc, token.from, ExprKind::Name(bytes))?;
-                Ok(leaf)
+                leaf_node(alloc, token.from, ExprKind::Name(bytes))
             }
             TokenKind::Int { value, unsigned } => {
                 self.rest = more;
@@ -42,19 +41,16 @@ impl<'a> Cursor<'a> {
                     value: *value,
                     unsigned: *unsigned,
                 };
-                let leaf = leaf_node(alloc, token.from, kind)?;
-                Ok(leaf)
+                leaf_node(alloc, token.from, kind)
             }
             TokenKind::Char(value) => {
                 self.rest = more;
-                let leaf = leaf_node(alloc, token.from, ExprKind::Char(*value))?;
-                Ok(leaf)
+                leaf_node(alloc, token.from, ExprKind::Char(*value))
             }
             TokenKind::Str(part) => {
                 self.rest = more;
                 let joined = self.strings(alloc, part.as_slice())?;
-                let leaf = leaf_node(alloc, token.from, ExprKind::Str(joined))?;
-                Ok(leaf)
+                leaf_node(alloc, token.from, ExprKind::Str(joined))
             }
             TokenKind::Punct(_) => Err(PhraseError::Syntax),
             TokenKind::Keyword(_) => Err(PhraseError::Syntax),

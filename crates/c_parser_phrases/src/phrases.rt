@@ -108,8 +108,7 @@ impl<'a> Cursor<'a> {
             return Err(PhraseError::Nesting(first.depth.deepest));
         }
         let list = self.expressions_from(alloc, room.in_node(), first)?;
-        let whole = comma_node(alloc, at, list)?;
-        Ok(whole)
+        comma_node(alloc, at, list)
     }
 
     // Assignment expressions with commas between, of which the first is read.
@@ -168,8 +167,7 @@ impl<'a> Cursor<'a> {
         }
         self.skip();
         let value = self.assignment_expression(alloc, room.in_node())?;
-        let whole = assign_node(alloc, at, operator, operand, value)?;
-        Ok(whole)
+        assign_node(alloc, at, operator, operand, value)
     }
 
     // A conditional expression (C99 6.5.15).
@@ -217,8 +215,7 @@ impl<'a> Cursor<'a> {
             return Err(PhraseError::Syntax);
         }
         let no = self.conditional_expression(alloc, room.in_node())?;
-        let whole = conditional_node(alloc, at, test, yes, no)?;
-        Ok(whole)
+        conditional_node(alloc, at, test, yes, no)
     }
 
     // The operators of the levels up to `most` with their operands, of which the first is read (C99 6.5.5 to 6.5.14).
@@ -279,8 +276,7 @@ impl<'a> Cursor<'a> {
             return Err(PhraseError::Syntax);
         }
         let operand = self.cast_expression(alloc, room.in_node())?;
-        let whole = cast_node(alloc, at, target, operand)?;
-        Ok(whole)
+        cast_node(alloc, at, target, operand)
     }
 
     // A unary expression (C99 6.5.3).
@@ -321,13 +317,11 @@ impl<'a> Cursor<'a> {
             Prefix::Sizeof => self.sizeof_expression(alloc, room, at),
             Prefix::Step(step) => {
                 let operand = self.unary_expression(alloc, room.in_node())?;
-                let whole = step_node(alloc, at, step, operand)?;
-                Ok(whole)
+                step_node(alloc, at, step, operand)
             }
             Prefix::Operator(operator) => {
                 let operand = self.cast_expression(alloc, room.in_node())?;
-                let whole = unary_node(alloc, at, operator, operand)?;
-                Ok(whole)
+                unary_node(alloc, at, operator, operand)
             }
         }
     }
@@ -348,8 +342,7 @@ impl<'a> Cursor<'a> {
     {
         if !self.is_at_cast() {
             let inside = self.unary_expression(alloc, room.in_node())?;
-            let whole = sizeof_node(alloc, at, inside)?;
-            return Ok(whole);
+            return sizeof_node(alloc, at, inside);
         }
         self.skip();
         let target = self.type_name(alloc, room.in_node())?;
@@ -359,8 +352,7 @@ impl<'a> Cursor<'a> {
         if self.is_at_suffix() {
             return Err(PhraseError::Syntax);
         }
-        let whole = sizeof_type_node(alloc, at, target)?;
-        Ok(whole)
+        sizeof_type_node(alloc, at, target)
     }
 
     // A postfix expression (C99 6.5.2).
@@ -408,32 +400,22 @@ impl<'a> Cursor<'a> {
                 if !self.take(RIGHT_BRACKET) {
                     return Err(PhraseError::Syntax);
                 }
-                let whole = index_node(alloc, at, left, inside)?;
-                Ok(whole)
+                index_node(alloc, at, left, inside)
             }
             Suffix::Call => {
                 let list = self.arguments(alloc, room.in_node())?;
-                let whole = call_node(alloc, at, left, list)?;
-                Ok(whole)
+                call_node(alloc, at, left, list)
             }
             Suffix::Dot => {
                 let name = self.name(alloc)?;
-                let whole = member_node(alloc, at, left, name)?;
-                Ok(whole)
+                member_node(alloc, at, left, name)
             }
             Suffix::Arrow => {
                 let name = self.name(alloc)?;
-                let whole = arrow_node(alloc, at, left, name)?;
-                Ok(whole)
+                arrow_node(alloc, at, left, name)
             }
-            Suffix::Increment => {
-                let whole = increased_node(alloc, at, left)?;
-                Ok(whole)
-            }
-            Suffix::Decrement => {
-                let whole = decreased_node(alloc, at, left)?;
-                Ok(whole)
-            }
+            Suffix::Increment => { increased_node(alloc, at, left) }
+            Suffix::Decrement => { decreased_node(alloc, at, left) }
         }
     }
 
@@ -531,8 +513,7 @@ impl<'a> Cursor<'a> {
         self.skip();
         self.consts();
         let inner = self.declared(alloc, room.in_node(), form)?;
-        let whole = pointer_node(alloc, at, inner)?;
-        Ok(whole)
+        pointer_node(alloc, at, inner)
     }
 
     // A name, a declarator in parentheses, or nothing.
@@ -557,8 +538,7 @@ impl<'a> Cursor<'a> {
                 return Err(PhraseError::Nesting(at));
             }
             let name = self.name(alloc)?;
-            let whole = name_node(alloc, at, name)?;
-            return Ok(whole);
+            return name_node(alloc, at, name);
         }
         if !self.opens(form) {
             if form == Form::Named {
@@ -629,8 +609,7 @@ impl<'a> Cursor<'a> {
             if !self.take(RIGHT_BRACKET) {
                 return Err(PhraseError::Syntax);
             }
-            let whole = array_node(alloc, at, left, size)?;
-            return Ok(whole);
+            return array_node(alloc, at, left, size);
         }
         if !self.take(LEFT_PARENTHESIS) {
             return Err(PhraseError::Syntax);
@@ -639,8 +618,7 @@ impl<'a> Cursor<'a> {
         if !self.take(RIGHT_PARENTHESIS) {
             return Err(PhraseError::Syntax);
         }
-        let whole = function_node(alloc, at, left, list)?;
-        Ok(whole)
+        function_node(alloc, at, left, list)
     }
 
     // The size of an array, or nothing.

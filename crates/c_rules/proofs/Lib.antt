@@ -12,7 +12,7 @@ pub mod ModeExpressions
 pub mod ModeFunctions
 pub mod ModeItems
 pub mod ModeNames
-mod ModeStatements
+pub mod ModeStatements
 pub mod Modes
 pub mod NoProgram
 pub mod NothingMore

@@ -16,7 +16,7 @@ use Rattle.c_rules.specs.Objects.{Object, object_of, object_declared}
 use Rattle.c_rules.specs.Variables.{Next, number_in}
 use Rattle.c_rules.specs.Blocks.{within_local, behind_local, behind_named, behind_part, past_part, behind_parts, behind_decl, behind_first, held_by_object, held_by_named, held_by_part, held_by_parts, held_by_decl, held_by_first, after_part, StatementTree, bare, alone, one_more, laid_variable, local_of, local, local_named, local_part, local_parts, local_decl, is_given}
 use Rattle.c_rules.specs.Statements.{first_of}
-use Rattle.c_rules.proofs.Modes.{Leads, LeadsTo, same_leads, fine_leads, with_fact, on_leads, then_leads, both_leads, gives_leads, first_fine, on_fine, ArePlain, Twin, twin, named_twin, alone_leads}
+use Rattle.c_rules.proofs.Modes.{Leads, LeadsTo, same_leads, fine_leads, with_fact, on_leads, then_leads, both_leads, gives_leads, first_fine, on_fine, ArePlain, MeanAlike, More, Alike, alike, named_alike, alone_leads}
 use Rattle.c_rules.proofs.ModeNames.{left, right, new_name_leads, new_name_plain}
 use Rattle.c_rules.proofs.ModeExpressions.{value_leads, type_declared_leads}
 
@@ -68,23 +68,26 @@ both_lists xs xs' ys ys' g h = ap (λ z. z ++ ys) g ∙ ap (λ z. xs' ++ z) h
 -- ## Strings that initialisers hold
 
 mutual
-  held_init : (env : Env) (t : CType) (i : Init) → held (left env) t i ≡ held (right env) t i
-  held_init env t (one at x) = refl
-  held_init env t (list at is) = held_turn env (slots (left env) t) is
+  held_init : (env : Env) (v : More) (t : CType) (i : Init) → held (left env) t i ≡ held (right env v) t i
+  held_init env v t (one at x) = refl
+  held_init env v t (list at is) = held_turn env v (slots (left env) t) is
 
-  held_turn : (env : Env) (s : Slots) (is : syntax.Inits) → held_in_turn (left env) s is ≡ held_in_turn (right env) s is
-  held_turn env s syntax.no_inits = refl
-  held_turn env (copies (suc n) t) (syntax.more_inits i is) = both_lists _ _ _ _ (held_init env t i) (held_turn env (copies n t) is)
-  held_turn env (each (t ∷ ts)) (syntax.more_inits i is) = both_lists _ _ _ _ (held_init env t i) (held_turn env (each ts) is)
-  held_turn env s (syntax.more_inits i is) = refl
+  held_turn : (env : Env) (v : More) (s : Slots) (is : syntax.Inits) → held_in_turn (left env) s is ≡ held_in_turn (right env v) s is
+  held_turn env v s syntax.no_inits = refl
+  held_turn env v (copies (suc n) t) (syntax.more_inits i is) = both_lists _ _ _ _ (held_init env v t i) (held_turn env v (copies n t) is)
+  held_turn env v (each (t ∷ ts)) (syntax.more_inits i is) = both_lists _ _ _ _ (held_init env v t i) (held_turn env v (each ts) is)
+  held_turn env v s (syntax.more_inits i is) = refl
+
+held_maybe : (env : Env) (v : More) (t : CType) (m : MaybeInit) → held_by (left env) t m ≡ held_by (right env v) t m
+held_maybe env v t no_init = refl
+held_maybe env v t (an_init i) = held_init env v t i
 
 -- the strings that an initialiser holds are the same
-pub held_maybe : (env : Env) (t : CType) (m : MaybeInit) → held_by (left env) t m ≡ held_by (right env) t m
-held_maybe env t no_init = refl
-held_maybe env t (an_init i) = held_init env t i
+pub held_same : (e f : Env) → Alike e f → (t : CType) (m : MaybeInit) → held_by e t m ≡ held_by f t m
+held_same e f (alike env v p l) t m = held_maybe env v t m
 
-after_same : (env : Env) (b : Before) (t : CType) (i : Init) → after_init (left env) b t i ≡ after_init (right env) b t i
-after_same env b t i = ap (past b (calls_of_init i)) (held_init env t i)
+after_same : (env : Env) (v : More) (b : Before) (t : CType) (i : Init) → after_init (left env) b t i ≡ after_init (right env v) b t i
+after_same env v b t i = ap (past b (calls_of_init i)) (held_init env v t i)
 
 -- ## Initialisers
 
@@ -104,32 +107,32 @@ list_leads takes at most n r s h =
     (λ _ _. then_leads r s (λ gs. demand (nat_le n most) 14 at gs) h)
 
 mutual
-  pub initialised_leads : (e f : Env) → Twin e f → (b : Before) (k : Bool) (t : CType) (i : Init) → Leads (initialised e b k t i) (initialised f b k t i)
-  initialised_leads e f (twin env p) b k t (one at x) = one_leads k at t (text_of x) (value (left env) b x) (value (right env) b x) (value_leads _ _ (twin env p) b x)
-  initialised_leads e f (twin env p) b k t (list at is) =
-      list_leads (takes_list t) at (capacity (slots (left env) t)) (count_inits is) (in_turn (left env) b k (slots (left env) t) is) (in_turn (right env) b k (slots (left env) t) is) (in_turn_leads _ _ (twin env p) b k (slots (left env) t) is)
+  pub initialised_leads : (e f : Env) → Alike e f → (b : Before) (k : Bool) (t : CType) (i : Init) → Leads (initialised e b k t i) (initialised f b k t i)
+  initialised_leads e f (alike env v p l) b k t (one at x) = one_leads k at t (text_of x) (value (left env) b x) (value (right env v) b x) (value_leads _ _ (alike env v p l) b x)
+  initialised_leads e f (alike env v p l) b k t (list at is) =
+      list_leads (takes_list t) at (capacity (slots (left env) t)) (count_inits is) (in_turn (left env) b k (slots (left env) t) is) (in_turn (right env v) b k (slots (left env) t) is) (in_turn_leads _ _ (alike env v p l) b k (slots (left env) t) is)
 
-  pub in_turn_leads : (e f : Env) → Twin e f → (b : Before) (k : Bool) (s : Slots) (is : syntax.Inits) → Leads (in_turn e b k s is) (in_turn f b k s is)
-  in_turn_leads e f (twin env p) b k s syntax.no_inits = same_leads (fine (zeros (layout_of (left env)) s))
-  in_turn_leads e f (twin env p) b k (copies (suc n) t) (syntax.more_inits i is) =
-      parts_at (Unit {0}) (Unit {0}) (Unit {0}) (initialised (left env) b k t i) (initialised (right env) b k t i) (λ y. in_turn (left env) y k (copies n t) is) (λ y. in_turn (right env) y k (copies n t) is) (after_init (left env) b t i) (after_init (right env) b t i) (λ gs hs. fine (gs ++ hs)) (λ _ _. tt) (λ _. after_same env b t i)
-      (initialised_leads _ _ (twin env p) b k t i) (λ _. in_turn_leads _ _ (twin env p) (after_init (left env) b t i) k (copies n t) is)
-  in_turn_leads e f (twin env p) b k (each (t ∷ ts)) (syntax.more_inits i is) =
-      parts_at (Unit {0}) (Unit {0}) (Unit {0}) (initialised (left env) b k t i) (initialised (right env) b k t i) (λ y. in_turn (left env) y k (each ts) is) (λ y. in_turn (right env) y k (each ts) is) (after_init (left env) b t i) (after_init (right env) b t i) (λ gs hs. fine (gs ++ hs)) (λ _ _. tt) (λ _. after_same env b t i)
-      (initialised_leads _ _ (twin env p) b k t i) (λ _. in_turn_leads _ _ (twin env p) (after_init (left env) b t i) k (each ts) is)
-  in_turn_leads e f (twin env p) b k s (syntax.more_inits i is) = (refl, tt)
+  pub in_turn_leads : (e f : Env) → Alike e f → (b : Before) (k : Bool) (s : Slots) (is : syntax.Inits) → Leads (in_turn e b k s is) (in_turn f b k s is)
+  in_turn_leads e f (alike env v p l) b k s syntax.no_inits = same_leads (fine (zeros (layout_of (left env)) s))
+  in_turn_leads e f (alike env v p l) b k (copies (suc n) t) (syntax.more_inits i is) =
+      parts_at (Unit {0}) (Unit {0}) (Unit {0}) (initialised (left env) b k t i) (initialised (right env v) b k t i) (λ y. in_turn (left env) y k (copies n t) is) (λ y. in_turn (right env v) y k (copies n t) is) (after_init (left env) b t i) (after_init (right env v) b t i) (λ gs hs. fine (gs ++ hs)) (λ _ _. tt) (λ _. after_same env v b t i)
+      (initialised_leads _ _ (alike env v p l) b k t i) (λ _. in_turn_leads _ _ (alike env v p l) (after_init (left env) b t i) k (copies n t) is)
+  in_turn_leads e f (alike env v p l) b k (each (t ∷ ts)) (syntax.more_inits i is) =
+      parts_at (Unit {0}) (Unit {0}) (Unit {0}) (initialised (left env) b k t i) (initialised (right env v) b k t i) (λ y. in_turn (left env) y k (each ts) is) (λ y. in_turn (right env v) y k (each ts) is) (after_init (left env) b t i) (after_init (right env v) b t i) (λ gs hs. fine (gs ++ hs)) (λ _ _. tt) (λ _. after_same env v b t i)
+      (initialised_leads _ _ (alike env v p l) b k t i) (λ _. in_turn_leads _ _ (alike env v p l) (after_init (left env) b t i) k (each ts) is)
+  in_turn_leads e f (alike env v p l) b k s (syntax.more_inits i is) = (refl, tt)
 
-local_init_leads : (e f : Env) → Twin e f → (b : Before) (t : CType) (m : MaybeInit) → Leads (initialised_local e b t m) (initialised_local f b t m)
-local_init_leads e f (twin env p) b t no_init = (refl, tt)
-local_init_leads e f (twin env p) b t (an_init i) = initialised_leads _ _ (twin env p) b false t i
+local_init_leads : (e f : Env) → Alike e f → (b : Before) (t : CType) (m : MaybeInit) → Leads (initialised_local e b t m) (initialised_local f b t m)
+local_init_leads e f (alike env v p l) b t no_init = (refl, tt)
+local_init_leads e f (alike env v p l) b t (an_init i) = initialised_leads _ _ (alike env v p l) b false t i
 
-pub static_init_leads : (e f : Env) → Twin e f → (b : Before) (t : CType) (m : MaybeInit) → Leads (initialised_static e b t m) (initialised_static f b t m)
-static_init_leads e f (twin env p) b t no_init = same_leads (initialised_static (left env) b t no_init)
-static_init_leads e f (twin env p) b t (an_init i) = initialised_leads _ _ (twin env p) b true t i
+pub static_init_leads : (e f : Env) → Alike e f → (b : Before) (t : CType) (m : MaybeInit) → Leads (initialised_static e b t m) (initialised_static f b t m)
+static_init_leads e f (alike env v p l) b t no_init = same_leads (initialised_static (left env) b t no_init)
+static_init_leads e f (alike env v p l) b t (an_init i) = initialised_leads _ _ (alike env v p l) b true t i
 
-pub object_leads : (e f : Env) → Twin e f → (at : ℕ) (s : Spec) (d : Declarator) (x : Ident) (m : MaybeInit) → Leads (object_declared e at s d x m) (object_declared f at s d x m)
-object_leads e f (twin env p) at s d x m =
-    then_leads (type_declared (left env) at s d) (type_declared (right env) at s d) (object_of (left env) (place_or at d) x.at m) (type_declared_leads _ _ (twin env p) at s d)
+pub object_leads : (e f : Env) → Alike e f → (at : ℕ) (s : Spec) (d : Declarator) (x : Ident) (m : MaybeInit) → Leads (object_declared e at s d x m) (object_declared f at s d x m)
+object_leads e f (alike env v p l) at s d x m =
+    then_leads (type_declared (left env) at s d) (type_declared (right env v) at s d) (object_of (left env) (place_or at d) x.at m) (type_declared_leads _ _ (alike env v p l) at s d)
 
 -- ## Variables
 
@@ -137,42 +140,42 @@ met_behind : {A B C : Type 0} (r : Checked A) (n : Checked B) (f : A → C) (o :
 met_behind r n f o a e u = λ i. on (e i) (λ q. gives (u i) (λ _. f q))
 
 -- behind a variable that is fine, whatever is said of it
-variable_twin : (env : Env) → ArePlain env.names → (x : Ident) (r s : Checked Object) (o : Object) (a : Met) → Leads r s → r ≡ fine o → new_name (left env) x ≡ fine a → (f : Object → Meaning) → Twin (with_name (left env) x.name (meaning_or_unknown (on r (λ q. gives (new_name (left env) x) (λ _. f q))))) (with_name (right env) x.name (meaning_or_unknown (on s (λ q. gives (new_name (right env) x) (λ _. f q)))))
-variable_twin env p x r s o a h e u f =
-    named_twin env x.name (on r (λ q. gives (new_name (left env) x) (λ _. f q))) (on s (λ q. gives (new_name (right env) x) (λ _. f q))) (f o) p (new_name_plain env x a u)
-    (met_behind r (new_name (left env) x) f o a e u) (met_behind s (new_name (right env) x) f o a (fine_leads r s o h e) (fine_leads _ _ a (new_name_leads env x) u))
+variable_alike : (env : Env) (v : More) → ArePlain env.names → MeanAlike env.names v.names → (x : Ident) (r s : Checked Object) (o : Object) (a : Met) → Leads r s → r ≡ fine o → new_name (left env) x ≡ fine a → (f : Object → Meaning) → Alike (with_name (left env) x.name (meaning_or_unknown (on r (λ q. gives (new_name (left env) x) (λ _. f q))))) (with_name (right env v) x.name (meaning_or_unknown (on s (λ q. gives (new_name (right env v) x) (λ _. f q)))))
+variable_alike env v p l x r s o a h e u f =
+    named_alike (left env) (right env v) (alike env v p l) x.name (on r (λ q. gives (new_name (left env) x) (λ _. f q))) (on s (λ q. gives (new_name (right env v) x) (λ _. f q))) (f o) (new_name_plain env x a u)
+    (met_behind r (new_name (left env) x) f o a e u) (met_behind s (new_name (right env v) x) f o a (fine_leads r s o h e) (fine_leads _ _ a (new_name_leads env v l x) u))
 
-local_of_leads : (e f : Env) → Twin e f → (b : Before) (next : Next) (x : Ident) (m : MaybeInit) (o : Object) → Leads (local_of e b next x m o) (local_of f b next x m o)
+local_of_leads : (e f : Env) → Alike e f → (b : Before) (next : Next) (x : Ident) (m : MaybeInit) (o : Object) → Leads (local_of e b next x m o) (local_of f b next x m o)
 local_of_leads e f w b next x m o = gives_leads (initialised_local e b o.whole m) (initialised_local f b o.whole m) (laid_variable x.name (number_in next x.name) o.whole) (local_init_leads e f w b o.whole m)
 
 -- what stands behind a part is the same in both modes, and so are the strings in it
 abbrev pub PartFacts : Env → Env → List (List ℕ) → List (List ℕ) → Type 0
-PartFacts e f ws vs = Twin e f × (ws ≡ vs)
+PartFacts e f ws vs = Alike e f × (ws ≡ vs)
 
-local_leads : (env : Env) → ArePlain env.names → (b : Before) (next : Next) (x : Ident) (m : MaybeInit) (r s : Checked Object) → Leads r s → Leads (local (left env) b next x m r) (local (right env) b next x m s)
-local_leads env p b next x m r s h =
-    both_leads (new_name (left env) x) (new_name (right env) x) (on r (local_of (within_local (left env) next x r) b next x m)) (on s (local_of (within_local (right env) next x s) b next x m)) (λ _ q. fine q) (λ _ q. fine q) (new_name_leads env x)
-    (λ a u. on_leads r s (local_of (within_local (left env) next x r) b next x m) (local_of (within_local (right env) next x s) b next x m) h (λ o e. local_of_leads _ _ (variable_twin env p x r s o a h e u (λ q. a_local (number_in next x.name) q.seen q.whole)) b next x m o)) (λ _ q. (refl, tt))
+local_leads : (env : Env) (v : More) → ArePlain env.names → MeanAlike env.names v.names → (b : Before) (next : Next) (x : Ident) (m : MaybeInit) (r s : Checked Object) → Leads r s → Leads (local (left env) b next x m r) (local (right env v) b next x m s)
+local_leads env v p l b next x m r s h =
+    both_leads (new_name (left env) x) (new_name (right env v) x) (on r (local_of (within_local (left env) next x r) b next x m)) (on s (local_of (within_local (right env v) next x s) b next x m)) (λ _ q. fine q) (λ _ q. fine q) (new_name_leads env v l x)
+    (λ a u. on_leads r s (local_of (within_local (left env) next x r) b next x m) (local_of (within_local (right env v) next x s) b next x m) h (λ o e. local_of_leads _ _ (variable_alike env v p l x r s o a h e u (λ q. a_local (number_in next x.name) q.seen q.whole)) b next x m o)) (λ _ q. (refl, tt))
 
-local_facts : (env : Env) → ArePlain env.names → (b : Before) (next : Next) (x : Ident) (m : MaybeInit) (r s : Checked Object) → Leads r s → (c : StatementTree typed.Stmt) → local (left env) b next x m r ≡ fine c → PartFacts (behind_local (left env) next x r) (behind_local (right env) next x s) (held_by_object (left env) m r) (held_by_object (right env) m s)
-local_facts env p b next x m r s h c e =
+local_facts : (env : Env) (v : More) → ArePlain env.names → MeanAlike env.names v.names → (b : Before) (next : Next) (x : Ident) (m : MaybeInit) (r s : Checked Object) → Leads r s → (c : StatementTree typed.Stmt) → local (left env) b next x m r ≡ fine c → PartFacts (behind_local (left env) next x r) (behind_local (right env v) next x s) (held_by_object (left env) m r) (held_by_object (right env v) m s)
+local_facts env v p l b next x m r s h c e =
     let k = first_fine (new_name (left env) x) (on r (local_of (within_local (left env) next x r) b next x m)) (λ _ q. fine q) c e in
     let o = on_fine r (local_of (within_local (left env) next x r) b next x m) k.1 k.3 in
-    (variable_twin env p x r s o.0 k.0 h o.1 k.2 (λ q. a_local (number_in next x.name) q.whole q.whole), ap (held_by_object (left env) m) o.1 ∙ (held_maybe env o.0.whole m ∙ sym (ap (held_by_object (right env) m) (fine_leads r s o.0 h o.1))))
+    (variable_alike env v p l x r s o.0 k.0 h o.1 k.2 (λ q. a_local (number_in next x.name) q.whole q.whole), ap (held_by_object (left env) m) o.1 ∙ (held_maybe env v o.0.whole m ∙ sym (ap (held_by_object (right env v) m) (fine_leads r s o.0 h o.1))))
 
-pub part_leads : (e f : Env) → Twin e f → (b : Before) (next : Next) (at : ℕ) (s : Spec) (d : Declarator) (m : MaybeInit) → LeadsTo (PartFacts (behind_part e next at s d m) (behind_part f next at s d m) (held_by_part e at s d m) (held_by_part f at s d m)) (local_part e b next at s d m) (local_part f b next at s d m)
-part_leads e f (twin env p) b next at s d m = by_name (name_of d)
+pub part_leads : (e f : Env) → Alike e f → (b : Before) (next : Next) (at : ℕ) (s : Spec) (d : Declarator) (m : MaybeInit) → LeadsTo (PartFacts (behind_part e next at s d m) (behind_part f next at s d m) (held_by_part e at s d m) (held_by_part f at s d m)) (local_part e b next at s d m) (local_part f b next at s d m)
+part_leads e f (alike env v p l) b next at s d m = by_name (name_of d)
   where
-    by_name : (n : Option Ident) → LeadsTo (PartFacts (behind_named (left env) next at s d m n) (behind_named (right env) next at s d m n) (held_by_named (left env) at s d m n) (held_by_named (right env) at s d m n)) (local_named (left env) b next at s d m n) (local_named (right env) b next at s d m n)
+    by_name : (n : Option Ident) → LeadsTo (PartFacts (behind_named (left env) next at s d m n) (behind_named (right env v) next at s d m n) (held_by_named (left env) at s d m n) (held_by_named (right env v) at s d m n)) (local_named (left env) b next at s d m n) (local_named (right env v) b next at s d m n)
     by_name None = tt
     by_name (Some x) =
-        alone_leads (PartFacts (behind_named (left env) next at s d m (Some x)) (behind_named (right env) next at s d m (Some x)) (held_by_named (left env) at s d m (Some x)) (held_by_named (right env) at s d m (Some x)))
-        (is_given (left env) x.name (type_declared (left env) at s d)) (is_given (right env) x.name (type_declared (right env) at s d)) 3 (place_or at d) (place_or at d)
-        (local (left env) b next x m (object_declared (left env) at s d x m)) (local (right env) b next x m (object_declared (right env) at s d x m))
-        (with_fact _ _ _ (local_leads env p b next x m (object_declared (left env) at s d x m) (object_declared (right env) at s d x m) (object_leads _ _ (twin env p) at s d x m))
-        (λ c e. local_facts env p b next x m (object_declared (left env) at s d x m) (object_declared (right env) at s d x m) (object_leads _ _ (twin env p) at s d x m) c e))
+        alone_leads (PartFacts (behind_named (left env) next at s d m (Some x)) (behind_named (right env v) next at s d m (Some x)) (held_by_named (left env) at s d m (Some x)) (held_by_named (right env v) at s d m (Some x)))
+        (is_given (left env) x.name (type_declared (left env) at s d)) (is_given (right env v) x.name (type_declared (right env v) at s d)) 3 (place_or at d) (place_or at d)
+        (local (left env) b next x m (object_declared (left env) at s d x m)) (local (right env v) b next x m (object_declared (right env v) at s d x m))
+        (with_fact _ _ _ (local_leads env v p l b next x m (object_declared (left env) at s d x m) (object_declared (right env v) at s d x m) (object_leads _ _ (alike env v p l) at s d x m))
+        (λ c e. local_facts env v p l b next x m (object_declared (left env) at s d x m) (object_declared (right env v) at s d x m) (object_leads _ _ (alike env v p l) at s d x m) c e))
 
-pub parts_lead : (e f : Env) → Twin e f → (b : Before) (next : Next) (at : ℕ) (s : Spec) (ps : Parts) → LeadsTo (PartFacts (behind_parts e next at s ps) (behind_parts f next at s ps) (held_by_parts e next at s ps) (held_by_parts f next at s ps)) (local_parts e b next at s ps) (local_parts f b next at s ps)
+pub parts_lead : (e f : Env) → Alike e f → (b : Before) (next : Next) (at : ℕ) (s : Spec) (ps : Parts) → LeadsTo (PartFacts (behind_parts e next at s ps) (behind_parts f next at s ps) (held_by_parts e next at s ps) (held_by_parts f next at s ps)) (local_parts e b next at s ps) (local_parts f b next at s ps)
 parts_lead e f w b next at s no_parts = (refl, (w, refl))
 parts_lead e f w b next at s (more_parts d m ps) =
     let e' : Env = behind_part e next at s d m in
@@ -181,10 +184,10 @@ parts_lead e f w b next at s (more_parts d m ps) =
     (local_part e b next at s d m) (local_part f b next at s d m) (λ y. local_parts e' y (past_part next d) at s ps) (λ y. local_parts f' y (past_part next d) at s ps) (after_part e b at s d m) (after_part f b at s d m) (λ q r. fine (one_more q r))
     (λ h i. (i.0, both_lists _ _ _ _ h.1 i.1)) (λ h. ap (past b (calls_of_maybe_init m)) h.1) (part_leads e f w b next at s d m) (λ h. parts_lead e' f' h.0 (after_part e b at s d m) (past_part next d) at s ps)
 
-pub decl_leads : (e f : Env) → Twin e f → (b : Before) (next : Next) (d : Decl) → LeadsTo (PartFacts (behind_decl e next d) (behind_decl f next d) (held_by_decl e next d) (held_by_decl f next d)) (local_decl e b next d) (local_decl f b next d)
+pub decl_leads : (e f : Env) → Alike e f → (b : Before) (next : Next) (d : Decl) → LeadsTo (PartFacts (behind_decl e next d) (behind_decl f next d) (held_by_decl e next d) (held_by_decl f next d)) (local_decl e b next d) (local_decl f b next d)
 decl_leads e f w b next (decl at class s ps) = parts_lead e f w b next at s ps
 
-pub first_leads : (e f : Env) → Twin e f → (b : Before) (next : Next) (x : First) → LeadsTo (PartFacts (behind_first e next x) (behind_first f next x) (held_by_first e next x) (held_by_first f next x)) (first_of e b next x) (first_of f b next x)
+pub first_leads : (e f : Env) → Alike e f → (b : Before) (next : Next) (x : First) → LeadsTo (PartFacts (behind_first e next x) (behind_first f next x) (held_by_first e next x) (held_by_first f next x)) (first_of e b next x) (first_of f b next x)
 first_leads e f w b next first_absent = (refl, (w, refl))
 first_leads e f w b next (first_expr x) = always _ _ _ (w, refl) (gives_leads (value e b x) (value f b x) (λ g. alone (bare (typed.evaluate (tree_of g)))) (value_leads e f w b x))
 first_leads e f w b next (first_decl d) = decl_leads e f w b next d

@@ -7,7 +7,7 @@ use Rattle.c_syntax.specs.Tree.{Tag, no_tag, tag, Stmt, BlockItems, Item, struct
 use Rattle.c_rules.specs.Checked.{Checked, fine, faulty, on, demand, and_also, met}
 use Rattle.c_rules.specs.Codes.{C2, C11, C12, C9}
 use Rattle.c_rules.specs.Names.{Name, is_among, is_reserved, given_names, may_be_declared, number_among}
-use Rattle.c_rules.specs.Scopes.{Env, a_static, an_enumerator, Struct, Before, layout_of, struct_of, tag_number, declared_here, with_name, with_struct, nothing_before, binding_of}
+use Rattle.c_rules.specs.Scopes.{Env, Meaning, meaning_or_unknown, a_static, an_enumerator, Struct, Before, layout_of, struct_of, tag_number, declared_here, with_name, with_struct, nothing_before, binding_of}
 use Rattle.c_rules.specs.Counts.{place_of, past}
 use Rattle.c_rules.specs.Declarators.{name_of, place_or, constant_value, new_name}
 use Rattle.c_rules.specs.Expressions.{type_declared, folded_value}
@@ -21,63 +21,76 @@ use Rattle.std.specs.Prelude.{unwrap_or}
 use Rattle.c_tree.specs.Layout.{Structs}
 use Rattle.c_rules.specs.Units.{env_before, env_behind, is_main_bound, has_main, strings_of, static_string, functions_of, program_of, IsTyped}
 use Rattle.c_rules.proofs.CheckedLemmas.{items_fine, names_fine, items_typed}
-use Rattle.c_rules.proofs.Modes.{fact, Leads, LeadsTo, same_leads, fine_leads, with_fact, without, on_leads, then_leads, both_leads, gives_leads, demand_leads, and_also_leads, first_fine, on_fine, demand_met, Twin, twin, named_twin, leads_twin, twin_same}
-use Rattle.c_rules.proofs.ModeNames.{left, right, unreserved, may_more, name_leads, given_leads, new_name_leads, new_name_plain}
+use Rattle.c_rules.proofs.Modes.{fact, Leads, LeadsTo, same_leads, fine_leads, with_fact, without, on_leads, then_leads, both_leads, gives_leads, demand_leads, and_also_leads, first_fine, on_fine, demand_met, in_mode, MeanAlike, More, Alike, alike, twin_alike, Twin, twin, named_twin, leads_twin, twin_same}
+use Rattle.c_rules.proofs.ModeNames.{left, right, here_same, unreserved, may_more, name_leads, given_leads, new_name_leads, new_name_plain}
 use Rattle.c_rules.proofs.ModeExpressions.{type_declared_leads}
-use Rattle.c_rules.proofs.ModeBlocks.{parts_to, both_to, weaken, always, moved, static_init_leads, object_leads, held_maybe}
+use Rattle.c_rules.proofs.ModeBlocks.{parts_to, both_to, weaken, always, moved, static_init_leads, object_leads, held_same}
 use Rattle.c_rules.proofs.ModeStatements.{folded_leads}
-use Rattle.c_rules.proofs.ModeFunctions.{function_declared_leads, function_twin, definition_leads}
+use Rattle.c_rules.proofs.ModeFunctions.{declared_twin, function_twin, definition_leads}
 
 -- ## Structs
 
-tag_leads : (env : Env) (x : Ident) → Leads (free_tag (left env) x) (free_tag (right env) x)
-tag_leads env x = demand_leads _ _ 12 x.at met (may_more x.name)
+tag_leads : (env : Env) (v : More) (x : Ident) → Leads (free_tag (left env) x) (free_tag (right env v) x)
+tag_leads env v x = demand_leads _ _ 12 x.at met (may_more x.name)
 
-member_leads : (e f : Env) → Twin e f → (earlier : List Name) (at : ℕ) (s : Spec) (d : Declarator) → Leads (member_declared e earlier at s d) (member_declared f earlier at s d)
-member_leads e f (twin env p) earlier at s d = by_name (name_of d)
+member_leads : (e f : Env) → Alike e f → (earlier : List Name) (at : ℕ) (s : Spec) (d : Declarator) → Leads (member_declared e earlier at s d) (member_declared f earlier at s d)
+member_leads e f (alike env v p l) earlier at s d = by_name (name_of d)
   where
-    by_name : (n : Option Ident) → Leads (member_named (left env) earlier at s d n) (member_named (right env) earlier at s d n)
+    by_name : (n : Option Ident) → Leads (member_named (left env) earlier at s d n) (member_named (right env v) earlier at s d n)
     by_name None = tt
     by_name (Some x) =
-        both_leads (new_member (left env) earlier x) (new_member (right env) earlier x) (on (type_declared (left env) at s d) (member_typed (left env) (place_or at d) x.at)) (on (type_declared (right env) at s d) (member_typed (right env) (place_or at d) x.at)) (λ _ t. fine (record { name = x.name; ctype = t })) (λ _ t. fine (record { name = x.name; ctype = t }))
-        (and_also_leads _ _ _ _ (tag_leads env x) (same_leads (demand (not (is_among earlier x.name)) C2 x.at met))) (λ _ _. then_leads (type_declared (left env) at s d) (type_declared (right env) at s d) (member_typed (left env) (place_or at d) x.at) (type_declared_leads _ _ (twin env p) at s d)) (λ _ t. (refl, tt))
+        both_leads (new_member (left env) earlier x) (new_member (right env v) earlier x) (on (type_declared (left env) at s d) (member_typed (left env) (place_or at d) x.at)) (on (type_declared (right env v) at s d) (member_typed (right env v) (place_or at d) x.at)) (λ _ t. fine (record { name = x.name; ctype = t })) (λ _ t. fine (record { name = x.name; ctype = t }))
+        (and_also_leads _ _ _ _ (tag_leads env v x) (same_leads (demand (not (is_among earlier x.name)) C2 x.at met))) (λ _ _. then_leads (type_declared (left env) at s d) (type_declared (right env v) at s d) (member_typed (left env) (place_or at d) x.at) (type_declared_leads _ _ (alike env v p l) at s d)) (λ _ t. (refl, tt))
 
-declarators_lead : (e f : Env) → Twin e f → (earlier : List Name) (at : ℕ) (s : Spec) (ds : Declarators) → Leads (members_declared e earlier at s ds) (members_declared f earlier at s ds)
+declarators_lead : (e f : Env) → Alike e f → (earlier : List Name) (at : ℕ) (s : Spec) (ds : Declarators) → Leads (members_declared e earlier at s ds) (members_declared f earlier at s ds)
 declarators_lead e f w earlier at s no_declarators = (refl, tt)
 declarators_lead e f w earlier at s (more_declarators d ds) =
     both_leads (member_declared e earlier at s d) (member_declared f earlier at s d) (members_declared e (with_option (name_of d) earlier) at s ds) (members_declared f (with_option (name_of d) earlier) at s ds) (λ m ms. fine (m ∷ ms)) (λ m ms. fine (m ∷ ms))
     (member_leads e f w earlier at s d) (λ _ _. declarators_lead e f w (with_option (name_of d) earlier) at s ds) (λ m ms. (refl, tt))
 
-members_lead : (e f : Env) → Twin e f → (earlier : List Name) (ms : Members) → Leads (members e earlier ms) (members f earlier ms)
+members_lead : (e f : Env) → Alike e f → (earlier : List Name) (ms : Members) → Leads (members e earlier ms) (members f earlier ms)
 members_lead e f w earlier no_members = (refl, tt)
 members_lead e f w earlier (more_members at s ds rest) =
     both_leads (members_declared e earlier at s ds) (members_declared f earlier at s ds) (members e (names_behind earlier ds) rest) (members f (names_behind earlier ds) rest) (λ ms others. fine (ms ++ others)) (λ ms others. fine (ms ++ others))
     (declarators_lead e f w earlier at s ds) (λ _ _. members_lead e f w (names_behind earlier ds) rest) (λ ms others. (refl, tt))
 
-struct_leads : (e f : Env) → Twin e f → (x : Ident) (ms : Members) → Leads (struct_definition e x ms) (struct_definition f x ms)
-struct_leads e f (twin env p) x ms =
-    both_leads (new_struct (left env) x) (new_struct (right env) x) (on (members (left env) [] ms) (struct_laid (left env) x)) (on (members (right env) [] ms) (struct_laid (right env) x)) (λ _ s. fine s) (λ _ s. fine s)
-    (and_also_leads _ _ _ _ (tag_leads env x) (same_leads (demand (is_incomplete (struct_of env (tag_number env x.name)) && not (is_among env.enums x.name)) C2 x.at met)))
-    (λ _ _. then_leads (members (left env) [] ms) (members (right env) [] ms) (struct_laid (left env) x) (members_lead _ _ (twin env p) [] ms)) (λ _ s. (refl, tt))
+pub struct_leads : (e f : Env) → Alike e f → (x : Ident) (ms : Members) → Leads (struct_definition e x ms) (struct_definition f x ms)
+struct_leads e f (alike env v p l) x ms =
+    both_leads (new_struct (left env) x) (new_struct (right env v) x) (on (members (left env) [] ms) (struct_laid (left env) x)) (on (members (right env v) [] ms) (struct_laid (right env v) x)) (λ _ s. fine s) (λ _ s. fine s)
+    (and_also_leads _ _ _ _ (tag_leads env v x) (same_leads (demand (is_incomplete (struct_of env (tag_number env x.name)) && not (is_among env.enums x.name)) C2 x.at met)))
+    (λ _ _. then_leads (members (left env) [] ms) (members (right env v) [] ms) (struct_laid (left env) x) (members_lead _ _ (alike env v p l) [] ms)) (λ _ s. (refl, tt))
 
 struct_twin : (e f : Env) → Twin e f → (x : Ident) (ms : Members) (s : Struct) → struct_definition e x ms ≡ fine s → Twin (with_struct e x.name (struct_or_unknown (struct_definition e x ms))) (with_struct f x.name (struct_or_unknown (struct_definition f x ms)))
 struct_twin e f (twin env p) x ms s g =
-    leads_twin (λ y. with_struct (left env) x.name (struct_or_unknown y)) (λ y. with_struct (right env) x.name (struct_or_unknown y)) _ _ s (struct_leads _ _ (twin env p) x ms) g (twin (with_struct env x.name s) p)
+    leads_twin (λ y. with_struct (left env) x.name (struct_or_unknown y)) (λ y. with_struct (in_mode Instrumented env) x.name (struct_or_unknown y)) _ _ s (struct_leads _ _ (twin_alike _ _ (twin env p)) x ms) g (twin (with_struct env x.name s) p)
 
-tag_declaration_leads : (e f : Env) → Twin e f → (x : Ident) → Leads (tag_declaration e x) (tag_declaration f x)
-tag_declaration_leads e f (twin env p) x = and_also_leads _ _ _ _ (tag_leads env x) (same_leads (demand (not (is_among env.enums x.name)) C2 x.at met))
+pub tag_declaration_leads : (e f : Env) → Alike e f → (x : Ident) → Leads (tag_declaration e x) (tag_declaration f x)
+tag_declaration_leads e f (alike env v p l) x = and_also_leads _ _ _ _ (tag_leads env v x) (same_leads (demand (not (is_among env.enums x.name)) C2 x.at met))
+
+behind_name : (e f : Env) → Twin e f → (x : Name) (r s : Checked Meaning) (m : Meaning) → is_reserved x ≡ false → r ≡ fine m → s ≡ fine m → Twin (with_name e x (meaning_or_unknown r)) (with_name f x (meaning_or_unknown s))
+behind_name e f (twin env p) x r s m u g h = named_twin env x r s m p u g h
 
 -- ## Enums
 
-new_enum_leads : (e f : Env) → Twin e f → (t : Tag) (ts : List Name) → Leads (new_enum e t ts) (new_enum f t ts)
-new_enum_leads e f (twin env p) no_tag ts = (refl, tt)
-new_enum_leads e f (twin env p) (tag x) ts = and_also_leads _ _ _ _ (tag_leads env x) (same_leads (demand (not (is_among env.enums x.name) && (not (is_among env.tags x.name) && not (is_among ts x.name))) C2 x.at met))
+not_both : (a b c d : Bool) → (c ≡ true → b ≡ true) → (not a && (not b && d)) ≡ true → (not a && (not c && d)) ≡ true
+not_both true b c d h e = e
+not_both false true c d h e = cc
+not_both false false true d h e = let k : false ≡ true = h refl in cc
+not_both false false false d h e = e
+
+-- where the tags that stand before on the right stand before on the left
+pub new_enum_leads : (e f : Env) → Alike e f → ((x : Name) → is_among f.tags x ≡ true → is_among e.tags x ≡ true) → (t : Tag) (ts : List Name) → Leads (new_enum e t ts) (new_enum f t ts)
+new_enum_leads e f (alike env v p l) h no_tag ts = (refl, tt)
+new_enum_leads e f (alike env v p l) h (tag x) ts =
+    and_also_leads _ _ _ _ (tag_leads env v x)
+    (demand_leads (not (is_among env.enums x.name) && (not (is_among env.tags x.name) && not (is_among ts x.name))) (not (is_among env.enums x.name) && (not (is_among v.tags x.name) && not (is_among ts x.name))) C2 x.at met
+    (not_both (is_among env.enums x.name) (is_among env.tags x.name) (is_among v.tags x.name) (not (is_among ts x.name)) (h x.name)))
 
 enum_tag_twin : (e f : Env) → Twin e f → (t : Tag) → Twin (behind_enum_tag e t) (behind_enum_tag f t)
 enum_tag_twin e f (twin env p) no_tag = twin env p
 enum_tag_twin e f (twin env p) (tag x) = twin (behind_enum_tag env (tag x)) p
 
-enumerator_value_leads : (e f : Env) → Twin e f → (r s : Checked ℤ) → Leads r s → (x : Ident) (m : Maybe) → Leads (enumerator_value e r x m) (enumerator_value f s x m)
+enumerator_value_leads : (e f : Env) → Alike e f → (r s : Checked ℤ) → Leads r s → (x : Ident) (m : Maybe) → Leads (enumerator_value e r x m) (enumerator_value f s x m)
 enumerator_value_leads e f w r s h x absent = then_leads r s (int_value x.at) h
 enumerator_value_leads e f w r s h x (there y) =
     on_leads _ _ _ _ (then_leads (folded_value e y) (folded_value f y) (constant_value (place_of y)) (folded_leads e f w y)) (λ v _. same_leads _)
@@ -86,33 +99,45 @@ pub one_more_leads : (r s : Checked ℤ) → Leads r s → Leads (one_more_than 
 one_more_leads (fine z) s h = (ap one_more_than h.0, tt)
 one_more_leads (faulty f fs) s h = tt
 
-enumerators_lead : (e f : Env) → Twin e f → (r s : Checked ℤ) → Leads r s → (es : Enumerators) → LeadsTo (Twin (behind_enumerators e r es) (behind_enumerators f s es)) (enumerators e r es) (enumerators f s es)
-enumerators_lead e f w r s h no_enumerators = (refl, w)
-enumerators_lead e f (twin env p) r s h (more_enumerators x m es) =
-    let q : Checked ℤ = enumerator_value (left env) r x m in
-    let t : Checked ℤ = enumerator_value (right env) s x m in
-    let l : Leads q t = enumerator_value_leads _ _ (twin env p) r s h x m in
-    let k : Leads (enumerator_meaning (left env) x q) (enumerator_meaning (right env) x t) = both_leads (new_name (left env) x) (new_name (right env) x) q t (λ _ z. fine (an_enumerator z)) (λ _ z. fine (an_enumerator z)) (new_name_leads env x) (λ _ _. l) (λ _ z. (refl, tt)) in
-    parts_to (Twin (behind_enumerator (left env) x q) (behind_enumerator (right env) x t)) (Twin (behind_enumerators (behind_enumerator (left env) x q) (one_more_than q) es) (behind_enumerators (behind_enumerator (right env) x t) (one_more_than t) es)) _
-    (enumerator_meaning (left env) x q) (enumerator_meaning (right env) x t) (enumerators (behind_enumerator (left env) x q) (one_more_than q) es) (enumerators (behind_enumerator (right env) x t) (one_more_than t) es) (λ _ _. fine met) (λ _ y. y)
-    (with_fact _ _ _ k (λ a g. named_twin env x.name (enumerator_meaning (left env) x q) (enumerator_meaning (right env) x t) a p (let u = first_fine (new_name (left env) x) q (λ _ z. fine (an_enumerator z)) a g in new_name_plain env x u.0 u.2) g (fine_leads _ _ a k g)))
-    (λ y. enumerators_lead (behind_enumerator (left env) x q) (behind_enumerator (right env) x t) y (one_more_than q) (one_more_than t) (one_more_leads q t l) es)
+enumerator_meaning_leads : (e f : Env) → Alike e f → (x : Ident) (q t : Checked ℤ) → Leads q t → Leads (enumerator_meaning e x q) (enumerator_meaning f x t)
+enumerator_meaning_leads e f (alike env v p l) x q t h = both_leads (new_name (left env) x) (new_name (right env v) x) q t (λ _ z. fine (an_enumerator z)) (λ _ z. fine (an_enumerator z)) (new_name_leads env v l x) (λ _ _. h) (λ _ z. (refl, tt))
+
+enumerator_plain : (e f : Env) → Alike e f → (x : Ident) (q : Checked ℤ) (a : Meaning) → enumerator_meaning e x q ≡ fine a → is_reserved x.name ≡ false
+enumerator_plain e f (alike env v p l) x q a g = let u = first_fine (new_name (left env) x) q (λ _ z. fine (an_enumerator z)) a g in new_name_plain env x u.0 u.2
+
+-- behind enumerators the scopes are related as before, where they are so behind each name that has the same meaning in both
+pub enumerators_lead : (R : Env → Env → Type 0) → ((e f : Env) → R e f → Alike e f)
+    → ((e f : Env) → R e f → (x : Name) (r s : Checked Meaning) (m : Meaning) → is_reserved x ≡ false → r ≡ fine m → s ≡ fine m → R (with_name e x (meaning_or_unknown r)) (with_name f x (meaning_or_unknown s)))
+    → (es : Enumerators) (e f : Env) → R e f → (r s : Checked ℤ) → Leads r s → LeadsTo (R (behind_enumerators e r es) (behind_enumerators f s es)) (enumerators e r es) (enumerators f s es)
+enumerators_lead R are named no_enumerators e f w r s h = (refl, w)
+enumerators_lead R are named (more_enumerators x m es) e f w r s h =
+    let q : Checked ℤ = enumerator_value e r x m in
+    let t : Checked ℤ = enumerator_value f s x m in
+    let v : Leads q t = enumerator_value_leads e f (are e f w) r s h x m in
+    let k : Leads (enumerator_meaning e x q) (enumerator_meaning f x t) = enumerator_meaning_leads e f (are e f w) x q t v in
+    parts_to (R (behind_enumerator e x q) (behind_enumerator f x t)) (R (behind_enumerators (behind_enumerator e x q) (one_more_than q) es) (behind_enumerators (behind_enumerator f x t) (one_more_than t) es)) _
+    (enumerator_meaning e x q) (enumerator_meaning f x t) (enumerators (behind_enumerator e x q) (one_more_than q) es) (enumerators (behind_enumerator f x t) (one_more_than t) es) (λ _ _. fine met) (λ _ y. y)
+    (with_fact _ _ _ k (λ a g. named e f w x.name (enumerator_meaning e x q) (enumerator_meaning f x t) a (enumerator_plain e f (are e f w) x q a g) g (fine_leads _ _ a k g)))
+    (λ y. enumerators_lead R are named es (behind_enumerator e x q) (behind_enumerator f x t) y (one_more_than q) (one_more_than t) (one_more_leads q t v))
 
 -- ## Static objects
 
-object_name_leads : (env : Env) (d : Bool) (x : Ident) (t : CType) → Leads (object_name (left env) d x t) (object_name (right env) d x t)
-object_name_leads env d x t = name_leads x.name x.at _ _ (λ u. and_also_leads _ _ _ _ (given_leads x u) (same_leads (demand (may_follow_object d t (declared_here env x.name)) C2 x.at met)))
+object_name_leads : (env : Env) (v : More) → MeanAlike env.names v.names → (d : Bool) (x : Ident) (t : CType) → Leads (object_name (left env) d x t) (object_name (right env v) d x t)
+object_name_leads env v l d x t =
+    name_leads x.name x.at _ _ (λ u. and_also_leads _ _ _ _ (given_leads x u)
+    (subst (λ h. Leads (demand (may_follow_object d t (declared_here (left env) x.name)) C2 x.at met) (demand (may_follow_object d t h) C2 x.at met)) (sym (here_same env v l x.name u)) (same_leads _)))
 
-few_leads : (env : Env) (d : Bool) (b : Before) (x : Ident) (t : CType) → Leads (few_static (left env) d b x t) (few_static (right env) d b x t)
-few_leads env false b x t = (refl, tt)
-few_leads env true b x t = same_leads (few_static (left env) true b x t)
+few_leads : (env : Env) (v : More) (d : Bool) (b : Before) (n : ℕ) (x : Ident) (t : CType) → Leads (few_static (left env) d b x t) (few_static (right env v) d (record b { sites = n }) x t)
+few_leads env v false b n x t = (refl, tt)
+few_leads env v true b n x t = same_leads (few_static (left env) true b x t)
 
-global_declared_leads : (e f : Env) → Twin e f → (d : Bool) (b : Before) (at : ℕ) (s : Spec) (p : Declarator) (x : Ident) (m : MaybeInit) → Leads (global_declared e d b at s p x m) (global_declared f d b at s p x m)
-global_declared_leads e f (twin env w) d b at s p x m =
-    on_leads (object_declared (left env) at s p x m) (object_declared (right env) at s p x m) (global_object (left env) d b x) (global_object (right env) d b x) (object_leads _ _ (twin env w) at s p x m)
-    (λ o _. gives_leads _ _ (λ _. o) (and_also_leads _ _ _ _ (object_name_leads env d x o.whole) (few_leads env d b x o.whole)))
+-- however many calls stand before it
+pub global_declared_leads : (e f : Env) → Alike e f → (d : Bool) (b : Before) (n at : ℕ) (s : Spec) (p : Declarator) (x : Ident) (m : MaybeInit) → Leads (global_declared e d b at s p x m) (global_declared f d (record b { sites = n }) at s p x m)
+global_declared_leads e f (alike env v p l) d b n at s c x m =
+    on_leads (object_declared (left env) at s c x m) (object_declared (right env v) at s c x m) (global_object (left env) d b x) (global_object (right env v) d (record b { sites = n }) x) (object_leads _ _ (alike env v p l) at s c x m)
+    (λ o _. gives_leads _ _ (λ _. o) (and_also_leads _ _ _ _ (object_name_leads env v l d x o.whole) (few_leads env v d b n x o.whole)))
 
-global_plain : (env : Env) (d : Bool) (b : Before) (at : ℕ) (s : Spec) (p : Declarator) (x : Ident) (m : MaybeInit) (o : Object) → global_declared (left env) d b at s p x m ≡ fine o → is_reserved x.name ≡ false
+pub global_plain : (env : Env) (d : Bool) (b : Before) (at : ℕ) (s : Spec) (p : Declarator) (x : Ident) (m : MaybeInit) (o : Object) → global_declared (left env) d b at s p x m ≡ fine o → is_reserved x.name ≡ false
 global_plain env d b at s p x m o g =
     let k = on_fine (object_declared (left env) at s p x m) (global_object (left env) d b x) o g in
     let l = on_fine (and_also (object_name (left env) d x k.0.whole) (few_static (left env) d b x k.0.whole)) (λ _. fine k.0) o k.2 in
@@ -121,7 +146,7 @@ global_plain env d b at s p x m o g =
     unreserved x.name (demand_met _ 12 x.at met i.0 i.2)
 
 -- an object of which only its declaration is asked has the type that its declarator gives
-same_object : (e : Env) (d : Bool) (b : Before) (at : ℕ) (s : Spec) (p : Declarator) (x : Ident) (m : MaybeInit) (o : Object) → global_declared e d b at s p x m ≡ fine o → object_declared e at s p x m ≡ fine o
+pub same_object : (e : Env) (d : Bool) (b : Before) (at : ℕ) (s : Spec) (p : Declarator) (x : Ident) (m : MaybeInit) (o : Object) → global_declared e d b at s p x m ≡ fine o → object_declared e at s p x m ≡ fine o
 same_object e d b at s p x m o g =
     let k = on_fine (object_declared e at s p x m) (global_object e d b x) o g in
     let l = on_fine (and_also (object_name e d x k.0.whole) (few_static e d b x k.0.whole)) (λ _. fine k.0) o k.2 in
@@ -129,16 +154,16 @@ same_object e d b at s p x m o g =
 
 static_leads : (e f : Env) → Twin e f → (b : Before) (m : MaybeInit) (o : Object) → Leads (definition_of e b m o) (definition_of f b m o)
 static_leads e f w b m o =
-    gives_leads _ _ (static_of o) (moved (Unit {0}) _ (λ y. initialised_static f y o.whole m) (after_object e b o.whole) (after_object f b o.whole) (twin_same (λ y. after_object y b o.whole) (λ _. refl) e f w) (static_init_leads e f w (after_object e b o.whole) o.whole m))
+    gives_leads _ _ (static_of o) (moved (Unit {0}) _ (λ y. initialised_static f y o.whole m) (after_object e b o.whole) (after_object f b o.whole) (twin_same (λ y. after_object y b o.whole) (λ _. refl) e f w) (static_init_leads e f (twin_alike e f w) (after_object e b o.whole) o.whole m))
 
 global_leads : (e f : Env) → Twin e f → (d : Bool) (b : Before) (at : ℕ) (s : Spec) (p : Declarator) (x : Ident) (m : MaybeInit) → Leads (global e d b x m (global_declared e d b at s p x m)) (global f d b x m (global_declared f d b at s p x m))
-global_leads e f w false b at s p x m = gives_leads _ _ (λ _. no_output) (global_declared_leads e f w false b at s p x m)
+global_leads e f w false b at s p x m = gives_leads _ _ (λ _. no_output) (global_declared_leads e f (twin_alike e f w) false b b.sites at s p x m)
 global_leads e f (twin env w) true b at s p x m =
     let r : Checked Object = global_declared (left env) true b at s p x m in
-    let q : Checked Object = global_declared (right env) true b at s p x m in
-    let h : Leads r q = global_declared_leads _ _ (twin env w) true b at s p x m in
-    on_leads r q (definition_of (within_global (left env) true x r) b m) (definition_of (within_global (right env) true x q) b m) h
-    (λ o g. let t : Twin (within_global (left env) true x r) (within_global (right env) true x q) = leads_twin (within_global (left env) true x) (within_global (right env) true x) r q o h g (twin (with_name env x.name (a_static o.seen o.whole (is_defined_by true (declared_here env x.name)))) (global_plain env true b at s p x m o g, w)) in static_leads _ _ t b m o)
+    let q : Checked Object = global_declared (in_mode Instrumented env) true b at s p x m in
+    let h : Leads r q = global_declared_leads _ _ (twin_alike _ _ (twin env w)) true b b.sites at s p x m in
+    on_leads r q (definition_of (within_global (left env) true x r) b m) (definition_of (within_global (in_mode Instrumented env) true x q) b m) h
+    (λ o g. let t : Twin (within_global (left env) true x r) (within_global (in_mode Instrumented env) true x q) = leads_twin (within_global (left env) true x) (within_global (in_mode Instrumented env) true x) r q o h g (twin (with_name env x.name (a_static o.seen o.whole (is_defined_by true (declared_here env x.name)))) (global_plain env true b at s p x m o g, w)) in static_leads _ _ t b m o)
 
 pub global_fine : (e : Env) (d : Bool) (b : Before) (x : Ident) (m : MaybeInit) (r : Checked Object) (c : Output) → global e d b x m r ≡ fine c → (o : Object) × (r ≡ fine o)
 global_fine e false b x m r c g = let k = on_fine r (λ _. fine no_output) c g in (k.0, k.1)
@@ -150,19 +175,19 @@ FileFacts e f b c = Twin e f × (b ≡ c)
 
 after_fine : (e f : Env) → Twin e f → (b : Before) (m : MaybeInit) (r s : Checked Object) (o : Object) → r ≡ fine o → s ≡ fine o → after_global e b m r ≡ after_global f b m s
 after_fine e f w b m r s o g h =
-    ap (after_global e b m) g ∙ (ap (λ ws. past (after_object e b o.whole) (calls_of_maybe_init m) ws) (twin_same (λ y. held_by y o.whole m) (λ env. held_maybe env o.whole m) e f w) ∙ (ap (λ y. past y (calls_of_maybe_init m) (held_by f o.whole m)) (twin_same (λ y. after_object y b o.whole) (λ _. refl) e f w) ∙ sym (ap (after_global f b m) h)))
+    ap (after_global e b m) g ∙ (ap (λ ws. past (after_object e b o.whole) (calls_of_maybe_init m) ws) (held_same e f (twin_alike e f w) o.whole m) ∙ (ap (λ y. past y (calls_of_maybe_init m) (held_by f o.whole m)) (twin_same (λ y. after_object y b o.whole) (λ _. refl) e f w) ∙ sym (ap (after_global f b m) h)))
 
 object_after : (e f : Env) → Twin e f → (b : Before) (at : ℕ) (s : Spec) (d : Declarator) (m : MaybeInit) (x : Ident) (t : Bool) (o : Object) → object_declared e at s d x m ≡ fine o → after_declared e b at s d m t (Some x) ≡ after_declared f b at s d m t (Some x)
 object_after e f w b at s d m x false o g = refl
-object_after e f w b at s d m x true o g = after_fine e f w b m (object_declared e at s d x m) (object_declared f at s d x m) o g (fine_leads _ _ o (object_leads e f w at s d x m) g)
+object_after e f w b at s d m x true o g = after_fine e f w b m (object_declared e at s d x m) (object_declared f at s d x m) o g (fine_leads _ _ o (object_leads e f (twin_alike e f w) at s d x m) g)
 
 global_behind : (e f : Env) → Twin e f → (t : Bool) (b : Before) (at : ℕ) (s : Spec) (d : Declarator) (x : Ident) (m : MaybeInit) (o : Object) → global_declared e t b at s d x m ≡ fine o → Twin (behind_global e t x (global_declared e t b at s d x m)) (behind_global f t x (global_declared f t b at s d x m))
 global_behind e f (twin env w) t b at s d x m o g =
-    leads_twin (behind_global (left env) t x) (behind_global (right env) t x) _ _ o (global_declared_leads _ _ (twin env w) t b at s d x m) g (twin (with_name env x.name (a_static o.whole o.whole (is_defined_by t (declared_here env x.name)))) (global_plain env t b at s d x m o g, w))
+    leads_twin (behind_global (left env) t x) (behind_global (in_mode Instrumented env) t x) _ _ o (global_declared_leads _ _ (twin_alike _ _ (twin env w)) t b b.sites at s d x m) g (twin (with_name env x.name (a_static o.whole o.whole (is_defined_by t (declared_here env x.name)))) (global_plain env t b at s d x m o g, w))
 
 declared_part_leads : (e f : Env) → Twin e f → (b : Before) (at : ℕ) (class : Storage) (s : Spec) (d : Declarator) (m : MaybeInit) (x : Ident) (t : Bool) → LeadsTo (FileFacts (behind_declared e b at class s d m t x) (behind_declared f b at class s d m t x) (after_declared e b at s d m (not t && defines class m) (Some x)) (after_declared f b at s d m (not t && defines class m) (Some x))) (declared_part e b at class s d m t x) (declared_part f b at class s d m t x)
 declared_part_leads e f w b at class s d m x true =
-    with_fact _ _ _ (both_leads (function_declared e false at s d x) (function_declared f false at s d x) (without_init m) (without_init m) (λ _ _. fine no_output) (λ _ _. fine no_output) (function_declared_leads e f w false at s d x) (λ _ _. same_leads (without_init m)) (λ _ _. (refl, tt)))
+    with_fact _ _ _ (both_leads (function_declared e false at s d x) (function_declared f false at s d x) (without_init m) (without_init m) (λ _ _. fine no_output) (λ _ _. fine no_output) (declared_twin e f w false at s d x) (λ _ _. same_leads (without_init m)) (λ _ _. (refl, tt)))
     (λ c g. let k = first_fine (function_declared e false at s d x) (without_init m) (λ _ _. fine no_output) c g in (function_twin e f w false at s d x k.0 k.2, refl))
 declared_part_leads e f w b at class s d m x false =
     with_fact _ _ _ (global_leads e f w (defines class m) b at s d x m)
@@ -191,7 +216,7 @@ function_item_leads e f w b at s d body true (Some x) h =
     let f' : Env = behind_defined f at s d x in
     let is : BlockItems = items_of_body body in
     both_to (Twin e' f') (held_by_typed e' d is (type_declared e at s d) ≡ held_by_typed f' d is (type_declared f at s d)) (function_declared e true at s d x) (function_declared f true at s d x) (on (type_declared e at s d) (defined_as e' b (place_or at d) d x is)) (on (type_declared f at s d) (defined_as f' b (place_or at d) d x is)) (λ _ p. fine (output_of_function p)) (λ _ p. fine (output_of_function p))
-    (with_fact (Twin e' f') _ _ (function_declared_leads e f w true at s d x) (λ m g. function_twin e f w true at s d x m g))
+    (with_fact (Twin e' f') _ _ (declared_twin e f w true at s d x) (λ m g. function_twin e f w true at s d x m g))
     (λ _ _ v. definition_leads e f w at s d h e' f' v b x is)
     (λ _ p. (refl, tt))
 function_item_leads e f w b at s d body t n h = tt
@@ -206,15 +231,15 @@ tags_twin e f (twin env p) i = twin (with_tags env i) p
 
 item_leads : (e f : Env) → Twin e f → (b : Before) (i : Item) → LeadsTo (ItemFacts e f b i) (item e b i) (item f b i)
 item_leads e f w b (struct_item at x ms) =
-    with_fact _ _ _ (gives_leads (struct_definition e x ms) (struct_definition f x ms) (λ _. no_output) (struct_leads e f w x ms))
+    with_fact _ _ _ (gives_leads (struct_definition e x ms) (struct_definition f x ms) (λ _. no_output) (struct_leads e f (twin_alike e f w) x ms))
     (λ c g. let k = on_fine (struct_definition e x ms) (λ _. fine no_output) c g in (tags_twin _ _ (struct_twin e f w x ms k.0 k.1) (struct_item at x ms), refl))
 item_leads e f w b (enum_item at x es) =
     let e' : Env = behind_enumerators e (fine (pos 0)) es in
     let f' : Env = behind_enumerators f (fine (pos 0)) es in
     let ts : List Name = tags_of_enumerators es in
     parts_to (Unit {0}) (Twin e' f') _ (new_enum e x ts) (new_enum f x ts) (enumerators e (fine (pos 0)) es) (enumerators f (fine (pos 0)) es) (λ _ _. fine no_output)
-    (λ _ h. (tags_twin _ _ (enum_tag_twin e' f' h x) (enum_item at x es), refl)) (new_enum_leads e f w x ts) (λ _. enumerators_lead e f w (fine (pos 0)) (fine (pos 0)) (refl, tt) es)
-item_leads e f w b (tag_item at x) = always _ _ _ (tags_twin _ _ w (tag_item at x), refl) (gives_leads (tag_declaration e x) (tag_declaration f x) (λ _. no_output) (tag_declaration_leads e f w x))
+    (λ _ h. (tags_twin _ _ (enum_tag_twin e' f' h x) (enum_item at x es), refl)) (new_enum_leads e f (twin_alike e f w) (λ y h. subst (λ ys. is_among ys y ≡ true) (sym (twin_same (λ e. e.tags) (λ _. refl) e f w)) h) x ts) (λ _. enumerators_lead Twin twin_alike behind_name es e f w (fine (pos 0)) (fine (pos 0)) (refl, tt))
+item_leads e f w b (tag_item at x) = always _ _ _ (tags_twin _ _ w (tag_item at x), refl) (gives_leads (tag_declaration e x) (tag_declaration f x) (λ _. no_output) (tag_declaration_leads e f (twin_alike e f w) x))
 item_leads e f w b (decl_item at (decl here class s ps)) = weaken _ _ _ _ (λ h. (tags_twin _ _ h.0 (decl_item at (decl here class s ps)), h.1)) (parts_lead e f w b here class s ps)
 item_leads e f w b (function_item at class s d body) = weaken _ _ _ _ (λ h. (tags_twin _ _ h.0 (function_item at class s d body), ap (past b (calls_of_block (items_of_body body))) h.1)) (function_item_leads e f w b at s d body (declares_function d) (name_of d) refl)
 

@@ -7,20 +7,15 @@ use Rattle.c_syntax.specs.Tree.{Ident}
 use Rattle.c_rules.specs.Checked.{Checked, fine, demand, and_also, Met, met}
 use Rattle.c_rules.specs.Codes.{C2, C11, C12}
 use Rattle.c_rules.specs.Names.{Name, number_among, is_among, is_reserved, null_calls, system_calls, given_names, may_be_declared}
-use Rattle.c_rules.specs.Scopes.{Env, Binding, Meaning, a_static, a_function, unknown, Context, evaluated, sized, folded, lookup, declared_here}
+use Rattle.c_rules.specs.Scopes.{Env, Binding, Meaning, a_static, a_function, unknown, Context, evaluated, sized, folded, lookup, at_depth, declared_here}
 use Rattle.c_rules.specs.TypedExpression.{TypedExpression}
 use Rattle.c_rules.specs.Conversions.{valued}
 use Rattle.c_rules.specs.PrimaryExpressions.{used, given_number, number_or, function_number, function_value_number, typed_function, meant, bound, named_expression}
 use Rattle.c_rules.specs.PostfixExpressions.{site_in, site_of, callee_of_type, callee_by_value}
 use Rattle.c_rules.specs.Declarators.{free_name, new_name}
 use Rattle.c_rules.specs.Expressions.{value_at, callee_meant, callee_bound}
-use Rattle.c_rules.proofs.Modes.{Leads, same_leads, on_leads, then_leads, both_leads, gives_leads, demand_leads, and_also_leads, first_fine, demand_met, below_more, ArePlain, in_mode}
-
-abbrev pub left : Env → Env
-left env = in_mode Plain env
-
-abbrev pub right : Env → Env
-right env = in_mode Instrumented env
+use Rattle.c_rules.proofs.Modes.{Leads, same_leads, on_leads, then_leads, both_leads, gives_leads, demand_leads, first_fine, demand_met, below_more, ArePlain, MeanAlike, More}
+pub use Rattle.c_rules.proofs.Modes.{left, right}
 
 pub found_in : (t : Bool) (c : Binding) (x : Name) (rest : Option Binding) (b : Binding) → bytes_eq c.name x ≡ t → is_reserved c.name ≡ false → (rest ≡ Some b → is_reserved x ≡ false) → cond t (Some c) rest ≡ Some b → is_reserved x ≡ false
 found_in true c x rest b e u h k = subst (λ y. is_reserved y ≡ false) ((bytes_eq-Decides c.name x).0 e) u
@@ -53,50 +48,57 @@ among_front (z ∷ xs) ys x h = ap (λ o. if bytes_eq z x then Some 0 else optio
 pub given_same : (x : Name) → is_reserved x ≡ false → number_among (given_names Instrumented) x ≡ number_among (given_names Plain) x
 given_same x u = among_front system_calls null_calls x (no_null x u)
 
-pub function_number_same : (env : Env) (x : Name) → is_reserved x ≡ false → function_number (right env) x ≡ function_number (left env) x
-function_number_same env x u = ap (λ o. number_or (number_among env.whole.functions x) (given_number (left env) o)) (given_same x u)
+pub function_number_same : (env : Env) (w : More) (x : Name) → is_reserved x ≡ false → function_number (right env w) x ≡ function_number (left env) x
+function_number_same env w x u = ap (λ o. number_or (number_among env.whole.functions x) (given_number (left env) o)) (given_same x u)
 
-used_leads : (env : Env) (at : ℕ) (x : Name) → is_reserved x ≡ false → Leads (used env.context at (function_number (left env) x)) (used env.context at (function_number (right env) x))
-used_leads env at x u = subst (λ o. Leads (used env.context at (function_number (left env) x)) (used env.context at o)) (sym (function_number_same env x u)) (same_leads _)
+used_leads : (env : Env) (w : More) (at : ℕ) (x : Name) → is_reserved x ≡ false → Leads (used env.context at (function_number (left env) x)) (used env.context at (function_number (right env w) x))
+used_leads env w at x u = subst (λ o. Leads (used env.context at (function_number (left env) x)) (used env.context at o)) (sym (function_number_same env w x u)) (same_leads _)
 
 -- ## Names as expressions
 
-meant_leads : (env : Env) (at : ℕ) (x : Name) (m : Meaning) → is_reserved x ≡ false → Leads (meant (left env) at x m) (meant (right env) at x m)
-meant_leads env at x (a_static seen whole d) u = same_leads (meant (left env) at x (a_static seen whole d))
-meant_leads env at x (a_function t d) u =
-    gives_leads (function_value_number (left env) at x) (function_value_number (right env) at x) (typed_function t)
-    (on_leads (demand (if is_among null_calls x then false else true) C12 at met) (demand (if is_among null_calls x then false else true) C12 at met) (λ _. used env.context at (function_number (left env) x)) (λ _. used env.context at (function_number (right env) x)) (same_leads _) (λ _ _. used_leads env at x u))
-meant_leads env at x (unknown f fs) u = tt
-meant_leads env at x m u = (refl, tt)
+meant_leads : (env : Env) (w : More) (at : ℕ) (x : Name) (m : Meaning) → is_reserved x ≡ false → Leads (meant (left env) at x m) (meant (right env w) at x m)
+meant_leads env w at x (a_static seen whole d) u = same_leads (meant (left env) at x (a_static seen whole d))
+meant_leads env w at x (a_function t d) u =
+    gives_leads (function_value_number (left env) at x) (function_value_number (right env w) at x) (typed_function t)
+    (on_leads (demand (if is_among null_calls x then false else true) C12 at met) (demand (if is_among null_calls x then false else true) C12 at met) (λ _. used env.context at (function_number (left env) x)) (λ _. used env.context at (function_number (right env w) x)) (same_leads _) (λ _ _. used_leads env w at x u))
+meant_leads env w at x (unknown f fs) u = tt
+meant_leads env w at x m u = (refl, tt)
 
-bound_leads : (env : Env) (at : ℕ) (x : Name) (o : Option Binding) → ((b : Binding) → o ≡ Some b → is_reserved x ≡ false) → Leads (bound (left env) at x o) (bound (right env) at x o)
-bound_leads env at x None h = tt
-bound_leads env at x (Some b) h = meant_leads env at x b.means (h b refl)
+-- a rule on what a name means, that fails for one that isn't bound, leads where it leads for each meaning of an unreserved name
+bound_alike : {A : Type 0} (F G : Option Binding → Checked A) (env : Env) (w : More) → ArePlain env.names → MeanAlike env.names w.names → (x : Name) → ((q : Option Binding) → Leads (F None) (G q)) → ((b : Binding) → is_reserved x ≡ false → Leads (F (Some b)) (G (Some b))) → Leads (F (lookup env.names x)) (G (lookup w.names x))
+bound_alike F G env w p m x n k = by_binding (lookup env.names x) (lookup w.names x) (found_plain env.names x p) (m x)
+  where
+    by_binding : (o q : Option Binding) → ((b : Binding) → o ≡ Some b → is_reserved x ≡ false) → (is_reserved x ≡ false → q ≡ o) → Leads (F o) (G q)
+    by_binding None q u e = n q
+    by_binding (Some b) q u e = subst (λ z. Leads (F (Some b)) (G z)) (sym (e (u b refl))) (k b (u b refl))
 
-pub named_leads : (env : Env) → ArePlain env.names → (at : ℕ) (x : Name) → Leads (named_expression (left env) at x) (named_expression (right env) at x)
-named_leads env p at x = bound_leads env at x (lookup env.names x) (found_plain env.names x p)
+pub named_leads : (env : Env) (w : More) → ArePlain env.names → MeanAlike env.names w.names → (at : ℕ) (x : Name) → Leads (named_expression (left env) at x) (named_expression (right env w) at x)
+named_leads env w p m at x = bound_alike (bound (left env) at x) (bound (right env w) at x) env w p m x (λ _. tt) (λ b u. meant_leads env w at x b.means u)
 
 -- ## Calls
 
-pub site_leads : (env : Env) (n at : ℕ) → Leads (site_of (left env) n at) (site_of (right env) n at)
-site_leads env n at = by_context env.context n at
+pub site_leads : (env : Env) (w : More) (n at : ℕ) → Leads (site_of (left env) n at) (site_of (right env w) n at)
+site_leads env w n at = by_context env.context n at
   where
     by_context : (c : Context) (n at : ℕ) → Leads (site_in c 10000 n at) (site_in c 30000 n at)
     by_context evaluated n at = demand_leads _ _ 13 at n (below_more n 10000 30000 (omega arith))
     by_context sized n at = tt
     by_context folded n at = (refl, tt)
 
-callee_meant_leads : (env : Env) (at place : ℕ) (x : Name) (r s : Checked TypedExpression) (m : Meaning) → is_reserved x ≡ false → Leads r s → Leads (callee_meant (left env) at place x r m) (callee_meant (right env) at place x s m)
-callee_meant_leads env at place x r s (a_function t d) u h =
-    then_leads (used env.context place (function_number (left env) x)) (used env.context place (function_number (right env) x)) (callee_of_type place t) (used_leads env place x u)
-callee_meant_leads env at place x r s m u h = then_leads r s (callee_by_value at) h
+pub value_at_leads : (env : Env) (w : More) (place : ℕ) (r s : Checked TypedExpression) → Leads r s → Leads (value_at (left env) place r) (value_at (right env w) place s)
+value_at_leads env w place r s h = then_leads r s (valued (left env) place) h
 
-pub callee_bound_leads : (env : Env) (at place : ℕ) (x : Name) (r s : Checked TypedExpression) (o : Option Binding) → ((b : Binding) → o ≡ Some b → is_reserved x ≡ false) → Leads r s → Leads (callee_bound (left env) at place x r o) (callee_bound (right env) at place x s o)
-callee_bound_leads env at place x r s None u h = then_leads r s (callee_by_value at) h
-callee_bound_leads env at place x r s (Some b) u h = callee_meant_leads env at place x r s b.means (u b refl) h
+callee_meant_leads : (env : Env) (w : More) (at place : ℕ) (x : Name) (r s : Checked TypedExpression) (m : Meaning) → is_reserved x ≡ false → Leads r s → Leads (callee_meant (left env) at place x r m) (callee_meant (right env w) at place x s m)
+callee_meant_leads env w at place x r s (a_function t d) u h =
+    then_leads (used env.context place (function_number (left env) x)) (used env.context place (function_number (right env w) x)) (callee_of_type place t) (used_leads env w place x u)
+callee_meant_leads env w at place x r s m u h = then_leads r s (callee_by_value at) h
 
-pub value_at_leads : (env : Env) (place : ℕ) (r s : Checked TypedExpression) → Leads r s → Leads (value_at (left env) place r) (value_at (right env) place s)
-value_at_leads env place r s h = then_leads r s (valued (left env) place) h
+-- a name as the designator of a call
+pub named_callee_leads : (env : Env) (w : More) → ArePlain env.names → MeanAlike env.names w.names → (at place : ℕ) (x : Name)
+    → Leads (callee_bound (left env) at place x (value_at (left env) place (named_expression (left env) place x)) (lookup env.names x)) (callee_bound (right env w) at place x (value_at (right env w) place (named_expression (right env w) place x)) (lookup w.names x))
+named_callee_leads env w p m at place x =
+    bound_alike (λ o. callee_bound (left env) at place x (value_at (left env) place (bound (left env) place x o)) o) (λ o. callee_bound (right env w) at place x (value_at (right env w) place (bound (right env w) place x o)) o) env w p m x (λ _. tt)
+    (λ b u. callee_meant_leads env w at place x (value_at (left env) place (meant (left env) place x b.means)) (value_at (right env w) place (meant (right env w) place x b.means)) b.means u (value_at_leads env w place (meant (left env) place x b.means) (meant (right env w) place x b.means) (meant_leads env w place x b.means u)))
 
 -- ## Declared names
 
@@ -120,14 +122,20 @@ name_leads x at q r h =
 pub given_leads : (x : Ident) → is_reserved x.name ≡ false → Leads (demand (not (is_among (given_names Plain) x.name)) C11 x.at met) (demand (not (is_among (given_names Instrumented) x.name)) C11 x.at met)
 given_leads x u = subst (λ o. Leads (demand (not (is_among (given_names Plain) x.name)) C11 x.at met) (demand (not (is_some o)) C11 x.at met)) (sym (given_same x.name u)) (same_leads _)
 
-pub free_name_leads : (env : Env) (x : Ident) → Leads (free_name (left env) x) (free_name (right env) x)
-free_name_leads env x = name_leads x.name x.at _ _ (given_leads x)
+free_name_leads : (env : Env) (w : More) (x : Ident) → Leads (free_name (left env) x) (free_name (right env w) x)
+free_name_leads env w x = name_leads x.name x.at _ _ (given_leads x)
 
 pub free_name_plain : (env : Env) (x : Ident) (a : Met) → free_name (left env) x ≡ fine a → is_reserved x.name ≡ false
 free_name_plain env x a e = let k = first_fine (demand (may_be_declared Plain x.name) C12 x.at met) (demand (not (is_among (given_names Plain) x.name)) C11 x.at met) (λ _ _. fine met) a e in unreserved x.name (demand_met _ 12 x.at met k.0 k.2)
 
-pub new_name_leads : (env : Env) (x : Ident) → Leads (new_name (left env) x) (new_name (right env) x)
-new_name_leads env x = and_also_leads (free_name (left env) x) (free_name (right env) x) (demand (is_none (declared_here env x.name)) C2 x.at met) (demand (is_none (declared_here env x.name)) C2 x.at met) (free_name_leads env x) (same_leads _)
+-- a name that isn't reserved is declared here in both or in none
+pub here_same : (env : Env) (w : More) → MeanAlike env.names w.names → (x : Name) → is_reserved x ≡ false → declared_here (right env w) x ≡ declared_here (left env) x
+here_same env w m x u = ap (at_depth env.depth) (m x u)
+
+pub new_name_leads : (env : Env) (w : More) → MeanAlike env.names w.names → (x : Ident) → Leads (new_name (left env) x) (new_name (right env w) x)
+new_name_leads env w m x =
+    both_leads (free_name (left env) x) (free_name (right env w) x) (demand (is_none (declared_here (left env) x.name)) C2 x.at met) (demand (is_none (declared_here (right env w) x.name)) C2 x.at met) (λ _ _. fine met) (λ _ _. fine met) (free_name_leads env w x)
+    (λ a e. subst (λ o. Leads (demand (is_none (declared_here (left env) x.name)) C2 x.at met) (demand (is_none o) C2 x.at met)) (sym (here_same env w m x.name (free_name_plain env x a e))) (same_leads _)) (λ _ _. (refl, tt))
 
 pub new_name_plain : (env : Env) (x : Ident) (a : Met) → new_name (left env) x ≡ fine a → is_reserved x.name ≡ false
 new_name_plain env x a e = let k = first_fine (free_name (left env) x) (demand (is_none (declared_here env x.name)) C2 x.at met) (λ _ _. fine met) a e in free_name_plain env x k.0 k.2

@@ -18,40 +18,40 @@ use Rattle.c_rules.specs.Expressions.{value, folded_value}
 use Rattle.c_rules.specs.Variables.{Next, past_names, names_of_decl, names_of_first, names_of_stmt, names_of_stmts, calls_of_decl, calls_of_first, calls_of_stmt, calls_of_stmts}
 use Rattle.c_rules.specs.Blocks.{behind_decl, behind_first, held_by_first, held_by_decl, held_by_stmt, held_by_block, held_by_stmts, held_by_groups, after_decl, after_first, after_stmt, after_stmts, StatementTree, bare, with_tree, joined, one_more, some_more, local_decl}
 use Rattle.c_rules.specs.Statements.{Around, in_loop, in_switch, condition_at, test_of, step_of, first_of, for_of, switched_kind, switched, label_type, labels_of, labelled, switch_of, returned, stmt, items_of_block, stmts, groups_of_switch}
-use Rattle.c_rules.proofs.Modes.{Leads, LeadsTo, same_leads, fine_leads, then_leads, both_leads, gives_leads, Twin, twin}
+use Rattle.c_rules.proofs.Modes.{Leads, LeadsTo, same_leads, fine_leads, then_leads, both_leads, gives_leads, Alike, alike}
 use Rattle.c_rules.proofs.ModeExpressions.{value_leads}
 use Rattle.c_rules.proofs.ModeBlocks.{PartFacts, parts_to, parts_at, both_to, gives_to, weaken, always, moved, both_lists, decl_leads, first_leads}
 
-pub inside_twin : (e f : Env) → Twin e f → Twin (inside e) (inside f)
-inside_twin e f (twin env p) = twin (inside env) p
+pub inside_alike : (e f : Env) → Alike e f → Alike (inside e) (inside f)
+inside_alike e f (alike env v p l) = alike (inside env) v p l
 
-pub folded_leads : (e f : Env) → Twin e f → (x : Expr) → Leads (folded_value e x) (folded_value f x)
-folded_leads e f (twin env p) x = value_leads _ _ (twin (in_context env folded) p) nothing_before x
+pub folded_leads : (e f : Env) → Alike e f → (x : Expr) → Leads (folded_value e x) (folded_value f x)
+folded_leads e f (alike env v p l) x = value_leads _ _ (alike (in_context env folded) v p l) nothing_before x
 
-condition_leads : (e f : Env) → Twin e f → (b : Before) (at : ℕ) (x : Expr) → Leads (condition_at at (value e b x)) (condition_at at (value f b x))
+condition_leads : (e f : Env) → Alike e f → (b : Before) (at : ℕ) (x : Expr) → Leads (condition_at at (value e b x)) (condition_at at (value f b x))
 condition_leads e f w b at x = then_leads (value e b x) (value f b x) (condition at) (value_leads e f w b x)
 
-test_leads : (e f : Env) → Twin e f → (b : Before) (at : ℕ) (m : Maybe) → Leads (test_of e b at m) (test_of f b at m)
+test_leads : (e f : Env) → Alike e f → (b : Before) (at : ℕ) (m : Maybe) → Leads (test_of e b at m) (test_of f b at m)
 test_leads e f w b at absent = (refl, tt)
 test_leads e f w b at (there x) = gives_leads (condition_at at (value e b x)) (condition_at at (value f b x)) typed.there (condition_leads e f w b at x)
 
-step_leads : (e f : Env) → Twin e f → (b : Before) (m : Maybe) → Leads (step_of e b m) (step_of f b m)
+step_leads : (e f : Env) → Alike e f → (b : Before) (m : Maybe) → Leads (step_of e b m) (step_of f b m)
 step_leads e f w b absent = (refl, tt)
 step_leads e f w b (there x) = gives_leads (value e b x) (value f b x) (λ g. typed.there (tree_of g)) (value_leads e f w b x)
 
-returned_leads : (e f : Env) → Twin e f → (b : Before) (at : ℕ) (t : CType) (m : Maybe) → Leads (returned e b at t m) (returned f b at t m)
+returned_leads : (e f : Env) → Alike e f → (b : Before) (at : ℕ) (t : CType) (m : Maybe) → Leads (returned e b at t m) (returned f b at t m)
 returned_leads e f w b at t absent = same_leads (returned e b at t absent)
 returned_leads e f w b at t (there x) =
     gives_leads (on (value e b x) (as_if_assigned at t)) (on (value f b x) (as_if_assigned at t)) (λ g. typed.return_value (tree_of g)) (then_leads (value e b x) (value f b x) (as_if_assigned at t) (value_leads e f w b x))
 
-labels_lead : (e f : Env) → Twin e f → (i : IntType) (ls : Labels) → Leads (labels_of e i ls) (labels_of f i ls)
+pub labels_lead : (e f : Env) → Alike e f → (i : IntType) (ls : Labels) → Leads (labels_of e i ls) (labels_of f i ls)
 labels_lead e f w i no_labels = (refl, tt)
 labels_lead e f w i (case_label at x ls) =
     both_leads (on (folded_value e x) (constant_value (place_of x))) (on (folded_value f x) (constant_value (place_of x))) (labels_of e i ls) (labels_of f i ls) (λ v vs. fine (Case (value_of i (number_of v)) ∷ vs)) (λ v vs. fine (Case (value_of i (number_of v)) ∷ vs))
     (then_leads (folded_value e x) (folded_value f x) (constant_value (place_of x)) (folded_leads e f w x)) (λ _ _. labels_lead e f w i ls) (λ v vs. (refl, tt))
 labels_lead e f w i (default_label at ls) = gives_leads (labels_of e i ls) (labels_of f i ls) (λ vs. Default ∷ vs) (labels_lead e f w i ls)
 
-switched_leads : (e f : Env) → Twin e f → (b : Before) (at : ℕ) (x : Expr) → Leads (switched at (value e b x)) (switched at (value f b x))
+switched_leads : (e f : Env) → Alike e f → (b : Before) (at : ℕ) (x : Expr) → Leads (switched at (value e b x)) (switched at (value f b x))
 switched_leads e f w b at x = then_leads (value e b x) (value f b x) (λ g. switched_kind at g (kind_of g.ctype)) (value_leads e f w b x)
 
 -- where both are fine the labels have one type
@@ -68,8 +68,8 @@ rest_of_for e a at test step s later b =
     beside (beside (test_of e b at test) (step_of e (after_maybe b test) step)) (stmt e (in_loop a) (after_maybe (after_maybe b test) step) later s)
 
 mutual
-  pub stmt_leads : (e f : Env) → Twin e f → (a : Around) (b : Before) (next : Next) (s : Stmt) → LeadsTo (held_by_stmt e next s ≡ held_by_stmt f next s) (stmt e a b next s) (stmt f a b next s)
-  stmt_leads e f w a b next (block at is) = gives_to _ (items_of_block (inside e) a b next is) (items_of_block (inside f) a b next is) (λ p. with_tree p (typed.block p.tree)) (block_leads (inside e) (inside f) (inside_twin e f w) a b next is)
+  pub stmt_leads : (e f : Env) → Alike e f → (a : Around) (b : Before) (next : Next) (s : Stmt) → LeadsTo (held_by_stmt e next s ≡ held_by_stmt f next s) (stmt e a b next s) (stmt f a b next s)
+  stmt_leads e f w a b next (block at is) = gives_to _ (items_of_block (inside e) a b next is) (items_of_block (inside f) a b next is) (λ p. with_tree p (typed.block p.tree)) (block_leads (inside e) (inside f) (inside_alike e f w) a b next is)
   stmt_leads e f w a b next (empty at) = (refl, refl)
   stmt_leads e f w a b next (evaluate at x) = always _ _ _ refl (gives_leads (value e b x) (value f b x) (λ g. bare (typed.evaluate (tree_of g))) (value_leads e f w b x))
   stmt_leads e f w a b next (only_if at x s) =
@@ -97,7 +97,7 @@ mutual
       let b1 : Before = after_first oe b next first in
       let b2 : Before = after_maybe b1 test in
       parts_at (PartFacts ie if' (held_by_first oe next first) (held_by_first of next first)) (Same ie if' later s) _ (first_of oe b next first) (first_of of b next first) (rest_of_for ie a at test step s later) (rest_of_for if' a at test step s later) b1 (after_first of b next first) (λ p y. fine (for_of p y.first y.second))
-      (λ h i. both_lists _ _ _ _ h.1 (ap (λ z. strings_of_maybe test ++ z) (ap (λ z. strings_of_maybe step ++ z) i))) (λ h. ap (past b (calls_of_first first)) h.1) (first_leads oe of (inside_twin e f w) b next first)
+      (λ h i. both_lists _ _ _ _ h.1 (ap (λ z. strings_of_maybe test ++ z) (ap (λ z. strings_of_maybe step ++ z) i))) (λ h. ap (past b (calls_of_first first)) h.1) (first_leads oe of (inside_alike e f w) b next first)
       (λ h. parts_to (Unit {0}) (Same ie if' later s) _ (beside (test_of ie b1 at test) (step_of ie b2 step)) (beside (test_of if' b1 at test) (step_of if' b2 step)) (stmt ie (in_loop a) (after_maybe b2 step) later s) (stmt if' (in_loop a) (after_maybe b2 step) later s) (λ t q. fine (record { first = t; second = q })) (λ _ i. i)
       (both_leads _ _ _ _ (λ t u. fine (record { first = t; second = u })) (λ t u. fine (record { first = t; second = u })) (test_leads ie if' h.0 b1 at test) (λ _ _. step_leads ie if' h.0 b2 step) (λ t u. (refl, tt))) (λ _. stmt_leads ie if' h.0 (in_loop a) (after_maybe b2 step) later s))
   stmt_leads e f w a b next (switch_on at x gs) =
@@ -110,7 +110,7 @@ mutual
   stmt_leads e f w a b next (return_from at m) = always _ _ _ refl (gives_leads (returned e b at a.returns m) (returned f b at a.returns m) bare (returned_leads e f w b at a.returns m))
   stmt_leads e f w a b next s = always _ _ _ refl (same_leads (stmt e a b next s))
 
-  pub block_leads : (e f : Env) → Twin e f → (a : Around) (b : Before) (next : Next) (is : BlockItems) → LeadsTo (held_by_block e next is ≡ held_by_block f next is) (items_of_block e a b next is) (items_of_block f a b next is)
+  pub block_leads : (e f : Env) → Alike e f → (a : Around) (b : Before) (next : Next) (is : BlockItems) → LeadsTo (held_by_block e next is ≡ held_by_block f next is) (items_of_block e a b next is) (items_of_block f a b next is)
   block_leads e f w a b next no_block_items = (refl, refl)
   block_leads e f w a b next (block_decl d is) =
       let e' : Env = behind_decl e next d in
@@ -123,14 +123,14 @@ mutual
       parts_at (Same e f next s) (held_by_block e later is ≡ held_by_block f later is) _ (stmt e a b next s) (stmt f a b next s) (λ y. items_of_block e a y later is) (λ y. items_of_block f a y later is) (after_stmt e b next s) (after_stmt f b next s) (λ p q. fine (one_more p q))
       (λ h i. both_lists _ _ _ _ h i) (λ h. ap (past b (calls_of_stmt s)) h) (stmt_leads e f w a b next s) (λ _. block_leads e f w a (after_stmt e b next s) later is)
 
-  stmts_lead : (e f : Env) → Twin e f → (a : Around) (b : Before) (next : Next) (ss : Stmts) → LeadsTo (held_by_stmts e next ss ≡ held_by_stmts f next ss) (stmts e a b next ss) (stmts f a b next ss)
+  stmts_lead : (e f : Env) → Alike e f → (a : Around) (b : Before) (next : Next) (ss : Stmts) → LeadsTo (held_by_stmts e next ss ≡ held_by_stmts f next ss) (stmts e a b next ss) (stmts f a b next ss)
   stmts_lead e f w a b next no_stmts = (refl, refl)
   stmts_lead e f w a b next (more_stmts s ss) =
       let later : Next = past_names next (names_of_stmt s) in
       parts_at (Same e f next s) (held_by_stmts e later ss ≡ held_by_stmts f later ss) _ (stmt e a b next s) (stmt f a b next s) (λ y. stmts e a y later ss) (λ y. stmts f a y later ss) (after_stmt e b next s) (after_stmt f b next s) (λ p q. fine (one_more p q))
       (λ h i. both_lists _ _ _ _ h i) (λ h. ap (past b (calls_of_stmt s)) h) (stmt_leads e f w a b next s) (λ _. stmts_lead e f w a (after_stmt e b next s) later ss)
 
-  groups_lead : (e f : Env) → Twin e f → (a : Around) (b : Before) (next : Next) (i : IntType) (gs : Groups) → LeadsTo (held_by_groups e next gs ≡ held_by_groups f next gs) (groups_of_switch e a b next i gs) (groups_of_switch f a b next i gs)
+  groups_lead : (e f : Env) → Alike e f → (a : Around) (b : Before) (next : Next) (i : IntType) (gs : Groups) → LeadsTo (held_by_groups e next gs ≡ held_by_groups f next gs) (groups_of_switch e a b next i gs) (groups_of_switch f a b next i gs)
   groups_lead e f w a b next i no_groups = (refl, refl)
   groups_lead e f w a b next i (more_groups ls ss gs) =
       let later : Next = past_names next (names_of_stmts ss) in

@@ -1,11 +1,12 @@
 -- The two modes side by side: what is fine in a plain unit is fine in an instrumented one and gives the same.
-use Rattle.std.proofs.Common.{◌≡◌, ℕ, ◌<◌, ◌≤◌, Bool, true, false, List, [], ◌∷◌, refl, ap, sym, subst, arith, nat_lt}
+use Rattle.std.proofs.Common.{◌≡◌, ℕ, ◌<◌, ◌≤◌, Bool, true, false, cond, List, [], ◌∷◌, Some, refl, ap, sym, subst, arith, nat_lt}
 use Rattle.std.proofs.lemmas.Bool.Decides.{Decides-ltb}
 use Rattle.c_tree.specs.Mode.{Mode}
 use Rattle.c_tree.specs.Mode.TheVariants.{Plain, Instrumented}
 use Rattle.c_rules.specs.Checked.{Checked, fine, faulty, on, both, beside, all_three, gives, demand, and_also, Met, met, fails_with, parts_first}
 use Rattle.c_rules.specs.Names.{Name, is_reserved}
-use Rattle.c_rules.specs.Scopes.{Env, Binding, Meaning, with_name, meaning_or_unknown}
+use Rattle.std.specs.Prelude.{bytes_eq}
+use Rattle.c_rules.specs.Scopes.{Env, Binding, Meaning, lookup, with_name, meaning_or_unknown}
 
 -- what is fine on the left is fine on the right and gives the same, and a further fact holds then
 abbrev pub LeadsTo : {A : Type 0} → Type 0 → Checked A → Checked A → Type 0
@@ -100,9 +101,39 @@ ArePlain (b ∷ bs) = (is_reserved b.name ≡ false) × ArePlain bs
 abbrev pub in_mode : Mode → Env → Env
 in_mode m env = record env { whole = record env.whole { mode = m } }
 
+-- names that aren't reserved mean the same
+abbrev pub MeanAlike : List Binding → List Binding → Type 0
+MeanAlike bs ns = (x : Name) → is_reserved x ≡ false → lookup ns x ≡ lookup bs x
+
+-- what declarations of the instrumenter change
+pub record More : Type 0 where
+  pub names : List Binding
+  pub functions : List Name
+  pub tags : List Name
+
+abbrev pub left : Env → Env
+left env = in_mode Plain env
+
+abbrev pub right : Env → More → Env
+right env w = record env { whole = record env.whole { mode = Instrumented }; names = w.names; functions = w.functions; tags = w.tags }
+
+-- a scope of a plain unit, and one of an instrumented unit
+pub data Alike : Env → Env → Type 0 where
+  alike : (env : Env) (w : More) → ArePlain env.names → MeanAlike env.names w.names → Alike (left env) (right env w)
+
+-- behind a name that has the same meaning in both
+pub named_alike : (e f : Env) → Alike e f → (x : Name) (r s : Checked Meaning) (n : Meaning) → is_reserved x ≡ false → r ≡ fine n → s ≡ fine n → Alike (with_name e x (meaning_or_unknown r)) (with_name f x (meaning_or_unknown s))
+named_alike e f (alike env w p m) x r s n u g h =
+    let c : Binding = record { name = x; depth = env.depth; means = n } in
+    subst (λ y. Alike (with_name (left env) x (meaning_or_unknown y)) (with_name (right env w) x (meaning_or_unknown s))) (sym g)
+    (subst (λ z. Alike (with_name (left env) x n) (with_name (right env w) x (meaning_or_unknown z))) (sym h) (alike (with_name env x n) (record w { names = c ∷ w.names }) (u, p) (λ y v. ap (cond (bytes_eq x y) (Some c)) (m y v))))
+
 -- the same scopes in the two modes, where no name is reserved
 pub data Twin : Env → Env → Type 0 where
   twin : (env : Env) → ArePlain env.names → Twin (in_mode Plain env) (in_mode Instrumented env)
+
+pub twin_alike : (e f : Env) → Twin e f → Alike e f
+twin_alike e f (twin env p) = alike env (record { names = env.names; functions = env.functions; tags = env.tags }) p (λ _ _. refl)
 
 -- behind a name that has the same meaning in both
 pub named_twin : (env : Env) (x : Name) (r s : Checked Meaning) (m : Meaning) → ArePlain env.names → is_reserved x ≡ false → r ≡ fine m → s ≡ fine m → Twin (with_name (in_mode Plain env) x (meaning_or_unknown r)) (with_name (in_mode Instrumented env) x (meaning_or_unknown s))

@@ -5,7 +5,7 @@ use Rattle.c_tree.specs.Tree.{Exprs, no_exprs, more_exprs, Maybe, absent, there,
 use Rattle.c_tree.specs.Tree.{Stmt, block, evaluate, declare, if_else, while_loop, do_loop, for_loop, switch_on, return_value, Stmts, no_stmts, more_stmts, Groups, no_groups, more_groups}
 use Rattle.c_tree.specs.Tree.{Function, Program}
 use Rattle.c_rules.specs.NullCalls.{CallsBelow, AllBelow, MaybeBelow, InitsBelow, StmtBelow, StmtsBelow, GroupsBelow, FunctionsBelow, CallsNoNullCall}
-use Rattle.c_meaning_laws.specs.WithoutNullCalls.{IsFree, AreFree, IsFreeMaybe, AreFreeInits, IsFreeStmt, AreFreeStmts, AreFreeGroups, MakesNoNullCall}
+use Rattle.c_meaning.specs.WithoutNullCalls.{IsFree, AreFree, IsFreeMaybe, AreFreeInits, IsFreeStmt, AreFreeStmts, AreFreeGroups, MakesNoNullCall}
 
 module _ (n : ℕ) where
   mutual

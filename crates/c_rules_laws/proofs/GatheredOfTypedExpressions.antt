@@ -1,11 +1,12 @@
 -- What is gathered at calls, in what the rules on expressions give, is what is gathered in their parts, in order; a constant has none.
-use Rattle.std.proofs.Common.{◌≡◌, ℕ, ℤ, Bool, true, ◌&&◌, List, [], ◌∷◌, ◌++◌, length, refl, ap, ap₂, sym, subst, ◌∙◌, arith}
+use Rattle.std.proofs.Common.{◌≡◌, ℕ, suc, ℤ, Bool, true, ◌&&◌, List, [], ◌∷◌, ◌++◌, append_assoc, length, refl, ap, ap₂, sym, subst, ◌∙◌, arith}
 use Rattle.c_tree.specs.declared.value.IntType.{IntType}
 use Rattle.c_tree.specs.declared.value.UnOp.TheVariants.{Not}
 use Rattle.c_tree.specs.declared.value.BinOp.{BinOp}
 use Rattle.c_tree.specs.declared.value.BinOp.TheVariants as op
 use Rattle.c_tree.specs.Tree.{CType, void, integer, pointer, array, struct, function, CTypes, no_types, more_types, Expr, Exprs, type_of}
-use Rattle.c_tree.specs.Gathered.{Gathering, gathered, gathered_all}
+use Rattle.c_tree.specs.Tree as typed
+use Rattle.c_tree.specs.Gathered.{Gathering, gathered, gathered_all, gathered_inits, gathered_stmt, gathered_stmts}
 use Rattle.c_tree.specs.Layout.{cells}
 use Rattle.c_tree.specs.Operands.{promoted}
 use Rattle.c_tree.specs.Operands.{kind_of as kind_of_operator}
@@ -14,6 +15,8 @@ use Rattle.c_rules.specs.Types.{is_integer, is_scalar, count}
 use Rattle.c_rules.specs.Scopes.{Env, layout_of}
 use Rattle.c_rules.specs.TypedExpression.{Form, a_value, Constant, TypedExpression, tree_of_form, tree_of, is_null, integer_constant}
 use Rattle.c_rules.specs.Constants.{constant_and, constant_or, constant_moved}
+use Rattle.c_rules.specs.Initialisers.{stores_from}
+use Rattle.c_rules.specs.Blocks.{appended}
 use Rattle.c_rules.specs.Conversions.{Kind, an_integer, a_pointer, neither, kind_of, few_parts, loaded, valued_as, valued, cast_to, has_integer, converted_to, null_of, fits, assigned_as, assigned, as_if_assigned, condition}
 use Rattle.c_rules.specs.PostfixExpressions.{Designator, direct, through, Callee, callee_of_type, callee_through, all_fit, passed, call_of, as_many_as, called, member_of}
 use Rattle.c_rules.specs.UnaryExpressions.{address, indirection, unary_of_value, size_of, cast_of, null_cast}
@@ -54,6 +57,20 @@ module _ {X : Type 0} (gathering : Gathering X) where
   called_at site (through e) = gathering.through site (type_of e)
 
 module _ {X : Type 0} (gathering : Gathering X) where
+  -- ## Lists
+
+  pub lists_gathered : (gs hs : List TypedExpression) (xs ys : List X) → AllGather gathering xs gs → AllGather gathering ys hs → AllGather gathering (xs ++ ys) (gs ++ hs)
+  lists_gathered [] hs xs ys h k = subst (λ zs. AllGather gathering (zs ++ ys) hs) (sym h) k
+  lists_gathered (g ∷ gs) hs xs ys h k = (h.0, h.1 ++ ys, h.2, lists_gathered gs hs h.1 ys h.3 k, ap (λ zs. zs ++ ys) h.4 ∙ append_assoc h.0 h.1 ys)
+
+  pub stores_gathered : (k : ℕ) (gs : List TypedExpression) (xs : List X) → AllGather gathering xs gs → gathered_inits gathering (stores_from k gs) ≡ xs
+  stores_gathered k [] xs h = sym h
+  stores_gathered k (g ∷ gs) xs h = ap₂ (λ x y. x ++ y) h.2.0 (stores_gathered (suc k) gs h.1 h.3) ∙ sym h.4
+
+  pub appended_gathered : (ss us : typed.Stmts) → gathered_stmts gathering (appended ss us) ≡ gathered_stmts gathering ss ++ gathered_stmts gathering us
+  appended_gathered typed.no_stmts us = refl
+  appended_gathered (typed.more_stmts s ss) us = ap (λ xs. gathered_stmt gathering s ++ xs) (appended_gathered ss us) ∙ sym (append_assoc (gathered_stmt gathering s) (gathered_stmts gathering ss) (gathered_stmts gathering us))
+
   -- ## Conversions
 
   loaded_gathered : (xs : List X) (g : TypedExpression) (f : Form) → Gathers gathering xs g → Gathers gathering xs (loaded g f)

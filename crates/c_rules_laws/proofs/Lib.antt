@@ -1,7 +1,9 @@
 pub mod Alike
 pub mod Blocks
 pub mod ConstantForms
+pub mod Callers
 pub mod Counted
+pub mod CountedCalls
 pub mod Declared
 pub mod DefinedNames
 pub mod Definitions
@@ -48,4 +50,4 @@ pub mod UnitShape
 pub mod UnitTable
 pub mod Units
 pub mod WholeUnits
-pub use Rattle.c_meaning_laws.proofs.Places
+pub use Rattle.c_meaning.proofs.Places

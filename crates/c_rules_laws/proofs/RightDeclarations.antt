@@ -24,7 +24,7 @@ use Rattle.c_rules.specs.Initialisers.{count_inits, text_of, calls_of_maybe_init
 use Rattle.c_rules.specs.Objects.{Object, sized_by_one, sized_by_init, sized_by, with_size, of_known_size, object_of, object_declared}
 use Rattle.c_rules.specs.Variables.{name_or_empty, Next, number_in, past_name, past_names, names_of_parts, names_of_decl}
 use Rattle.c_rules.specs.Blocks.{behind_local, behind_named, behind_part, past_part, behind_parts, behind_decl, held_by_object, held_by_named, held_by_part, held_by_parts, held_by_decl, after_part, StatementTree, one_more, laid_variable, local_of, local, local_named, local_part, local_parts, local_decl, is_given, joined}
-use Rattle.c_meaning_laws.proofs.Places.{get_left, get_right, lies_whole}
+use Rattle.c_meaning.proofs.Places.{get_left, get_right, lies_whole}
 use Rattle.c_rules_laws.specs.Lexical.{IsMaybeInitLexical, ArePartsLexical, IsDeclLexical}
 use Rattle.c_rules_laws.specs.MadeTypes.{NotArray, Made, IsSized}
 use Rattle.c_rules_laws.specs.RightScopes.{MeaningTyped, Seen, IsThing, MeaningRight, IsRight, StringsIn}

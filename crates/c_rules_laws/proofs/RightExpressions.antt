@@ -28,7 +28,7 @@ use Rattle.c_rules.specs.Assignments.{assignable, assignment_by, step, comma_of}
 use Rattle.c_rules.specs.Declarators.{place_of_type, is_void_pointer}
 use Rattle.c_rules.specs.Expressions.{value_at, place_at, callee, access, after_operand, unary_rule, infix_rule, cast_rule, tree, trees, type_named, value}
 use Rattle.c_rules.proofs.Integers.{integer_cases}
-use Rattle.c_meaning_laws.proofs.Places.{get_left, get_right, length_repeat}
+use Rattle.c_meaning.proofs.Places.{get_left, get_right, length_repeat}
 use Rattle.c_rules_laws.specs.Lexical.{IsLexical, AreLexical, AreSomeExprs}
 use Rattle.c_rules_laws.specs.MadeTypes.{Made, IsSized}
 use Rattle.c_rules_laws.specs.RightScopes.{MeaningRight, IsRight, StringsIn}

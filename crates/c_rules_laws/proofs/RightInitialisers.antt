@@ -1,5 +1,5 @@
 -- Initialisers give each cell of an object a value of its type.
-use Rattle.std.proofs.Common.{◌≡◌, ◌⊎◌, inl, inr, ℕ, zero, suc, ◌+◌, ◌-◌, ◌≤◌, pos, Bool, true, false, List, [], ◌∷◌, ◌++◌, All, map, replicate, length, append_assoc, Option, Some, None, slice_get, unwrap_or, nat_le, refl, ap, ap₂, sym, subst, ◌∙◌, arith}
+use Rattle.std.proofs.Common.{◌≡◌, ◌⊎◌, inl, inr, ℕ, zero, suc, ◌+◌, ◌-◌, ◌≤◌, pos, Bool, true, false, List, [], ◌∷◌, ◌++◌, All, map, replicate, length, append_assoc, Option, Some, None, slice_get, unwrap_or, nat_le, refl, ap, sym, subst, ◌∙◌, arith}
 use Rattle.std.specs.Prelude.{option_map}
 use Rattle.std.specs.List.{range_with_len}
 use Rattle.std.proofs.lemmas.Bool.{leb-true}
@@ -12,7 +12,6 @@ use Rattle.c_tree.specs.Operands.{IsScalar, IsComplete}
 use Rattle.c_tree.specs.Operators.{value_of}
 use Rattle.c_tree.specs.Kinds.{Lies}
 use Rattle.c_tree.specs.Typed.{AreInits}
-use Rattle.c_tree.specs.Sites.{sites_of_inits}
 use Rattle.c_tree.proofs.OperatorLemmas.{value_of_type}
 use Rattle.c_syntax.specs.Tree.{Expr, a_str, Init, one, list, MaybeInit, no_init, an_init}
 use Rattle.c_syntax.specs.Tree as syntax
@@ -24,7 +23,7 @@ use Rattle.c_rules.specs.Conversions.{as_if_assigned}
 use Rattle.c_rules.specs.PrimaryExpressions.{string_number}
 use Rattle.c_rules.specs.Expressions.{value}
 use Rattle.c_rules.specs.Initialisers.{Slots, copies, each, members_of_struct, slots, capacity, takes_list, count_inits, text_of, typed_zero, typed_char, zeros, chars, cell_of, scalar_cell, array_cells, cells_of_list, held_by_one, held, held_in_turn, calls_of_init, calls_of_inits, after_init, initialised, in_turn, held_by, calls_of_maybe_init, initialised_local, initialised_static, stores_from, text_fits}
-use Rattle.c_meaning_laws.proofs.Places.{struct_is, flat_scalar}
+use Rattle.c_meaning.proofs.Places.{struct_is, flat_scalar}
 use Rattle.c_rules_laws.specs.Lexical.{IsInitLexical, AreInitsLexical, IsMaybeInitLexical}
 use Rattle.c_rules_laws.specs.MadeTypes.{Made}
 use Rattle.c_rules_laws.specs.RightScopes.{IsRight, StringsIn}
@@ -39,7 +38,7 @@ use Rattle.c_rules.proofs.EntryLemmas.{none_is_no_list}
 use Rattle.c_rules.proofs.NothingMore.{nothing_more}
 use Rattle.c_rules_laws.specs.ConstantForm.{IsConst}
 use Rattle.c_rules_laws.proofs.SitesOfExpressions.{fits_none, fits_both, FitsAt, Span, Counted, holds_with, range_append, value_counted}
-use Rattle.c_rules_laws.proofs.GatheredOfTypedExpressions.{Gathers, AllGather, none_both, as_if_gathered}
+use Rattle.c_rules_laws.proofs.GatheredOfTypedExpressions.{Gathers, AllGather, none_both, lists_gathered, as_if_gathered}
 use Rattle.c_tree.specs.Sites.{all_sites}
 
 -- ## Cells
@@ -52,10 +51,6 @@ known_const c h = tt
 pub known_sites : (gs : List TypedExpression) (xs : List ℕ) → AllKnown gs → AllGather all_sites xs gs → xs ≡ []
 known_sites [] xs h k = k
 known_sites (g ∷ gs) xs h k = k.4 ∙ none_both k.0 k.1 (k.2.1 (known_const g.constant h.0)) (known_sites gs k.1 h.1 k.3)
-
-both_givens : (gs hs : List TypedExpression) (xs ys : List ℕ) → AllGather all_sites xs gs → AllGather all_sites ys hs → AllGather all_sites (xs ++ ys) (gs ++ hs)
-both_givens [] hs xs ys h k = subst (λ zs. AllGather all_sites (zs ++ ys) hs) (sym h) k
-both_givens (g ∷ gs) hs xs ys h k = (h.0, h.1 ++ ys, h.2, both_givens gs hs h.1 ys h.3 k, ap (λ zs. zs ++ ys) h.4 ∙ append_assoc h.0 h.1 ys)
 
 repeat_add : (a b : ℕ) (xs : List CType) → repeat (a + b) xs ≡ repeat a xs ++ repeat b xs
 repeat_add zero b xs = (let e : 0 + b ≡ b = omega arith in ap (λ n. repeat n xs) e)
@@ -196,10 +191,6 @@ module _ (p : Program) (vars : List CType) where
       (got ∙ ap Some (sym (h.1.0 ∙ h.0)), h.1.1, stores_right all ts (suc k) gs (λ j u q. (let f : k + suc j ≡ suc k + j = omega arith in subst (λ n. slice_get all n ≡ Some u) f (l (suc j) u q))) h.2)
   stores_right all part k gs l h = absurd h
 
-pub stores_sites : (k : ℕ) (gs : List TypedExpression) (xs : List ℕ) → AllGather all_sites xs gs → sites_of_inits (stores_from k gs) ≡ xs
-stores_sites k [] xs h = sym h
-stores_sites k (g ∷ gs) xs h = ap₂ (λ x y. x ++ y) h.2.0 (stores_sites (suc k) gs h.1 h.3) ∙ sym h.4
-
 -- ## The sites in initialisers
 
 abbrev pub InitCounted : Before → ℕ → List (List ℕ) → List TypedExpression → Type 0
@@ -234,7 +225,7 @@ list_counted b n ws takes at most count r h =
 
 init_both : (b : Before) (n m : ℕ) (xs ys : List (List ℕ)) (gs hs : List TypedExpression) → InitCounted b n xs gs → InitCounted (past b n xs) m ys hs → InitCounted b (n + m) (xs ++ ys) (gs ++ hs)
 init_both b n m xs ys gs hs h k =
-    (subst (λ zs. AllGather all_sites zs (gs ++ hs)) (sym (range_append b.sites n m)) (both_givens gs hs (Span b n) (range_with_len (b.sites + n) m) h.0 k.0), fits_both b.sites b.cells n m xs ys h.1 k.1)
+    (subst (λ zs. AllGather all_sites zs (gs ++ hs)) (sym (range_append b.sites n m)) (lists_gathered all_sites gs hs (Span b n) (range_with_len (b.sites + n) m) h.0 k.0), fits_both b.sites b.cells n m xs ys h.1 k.1)
 
 mutual
   pub initialised_counted : (i : Init) (env : Env) → env.context ≡ evaluated → (b : Before) (k : Bool) (t : CType) → Holds (InitCounted b (calls_of_init i) (held env t i)) (initialised env b k t i)

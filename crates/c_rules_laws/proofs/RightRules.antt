@@ -33,7 +33,7 @@ use Rattle.c_rules.specs.UnaryExpressions.{address, indirection, unary_of_value,
 use Rattle.c_rules.specs.BinaryExpressions.{shifted, compared_integers, compared_pointers, plus_pointer, difference, operation, chosen, choice}
 use Rattle.c_rules.specs.Assignments.{operator_of_assignment, right_type, updated, moves, assignment_by, one_for, step, trees_of, last_type, comma_of}
 use Rattle.c_rules.specs.PrimaryExpressions.{typed_unsigned}
-use Rattle.c_meaning_laws.proofs.Places.{struct_is, member_lies, member_few}
+use Rattle.c_meaning.proofs.Places.{struct_is, member_lies, member_few}
 use Rattle.c_rules_laws.specs.MadeTypes.{NotArray, Made, IsSized}
 use Rattle.c_rules_laws.specs.SoundStructs.{AreSound, AreWithin}
 use Rattle.c_rules_laws.proofs.Holding.{Holds, held, on_holds, demand_holds, behind_demand, holds_map, and_left, and_right, either}

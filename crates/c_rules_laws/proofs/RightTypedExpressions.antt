@@ -27,15 +27,15 @@ use Rattle.c_rules.specs.TypedExpression.{Form, a_value, a_place, behind, Consta
 use Rattle.c_rules.specs.Constants.{answered, constant_converted, constant_unary, constant_binary, constant_truth, constant_and, constant_or, constant_conditional, address_of_static, static_address, is_within, part_of, constant_member, constant_decayed, moved, constant_moved, number_of}
 use Rattle.c_rules.specs.Conversions.{Kind, an_integer, a_pointer, neither, kind_of, few_parts, loaded, valued_as, valued, cast_to, has_integer, converted_to, null_of, fits_kind, fits, assigned_as, assigned, as_if_assigned, condition}
 use Rattle.c_rules.specs.Limits.{most_cells}
-use Rattle.c_meaning_laws.proofs.Places.{lies_in, lies_whole, repeat_lies, lies_once, length_repeat, element_object}
-use Rattle.c_meaning_laws.proofs.Steps.{settled}
+use Rattle.c_meaning.proofs.Places.{lies_in, lies_whole, repeat_lies, lies_once, length_repeat, element_object}
+use Rattle.c_meaning.proofs.Steps.{settled}
 use Rattle.c_rules_laws.specs.MadeTypes.{NotArray, Made}
 use Rattle.c_rules_laws.specs.RightScopes.{Seen, IsThing}
 use Rattle.c_rules_laws.specs.SoundStructs.{AreWithin}
 use Rattle.c_rules_laws.proofs.Holding.{Holds, demand_holds, and_left, either}
 use Rattle.c_rules_laws.proofs.MadeTypes.{integer_is, scalar_is, type_is, complete_kept, result_not_array}
 use Rattle.c_rules_laws.proofs.SoundStructs.{object_is, same_flat, are_structs}
-use Rattle.c_meaning_laws.proofs.Differences.{has_cell}
+use Rattle.c_meaning.proofs.Differences.{has_cell}
 use Rattle.c_rules_laws.proofs.Operators.{kind_pointer, kind_integer}
 
 -- no void and no array

@@ -1,5 +1,5 @@
 -- The sites in statements are the numbers from that of the calls before them on; and the limits on calls and strings hold.
-use Rattle.std.proofs.Common.{◌≡◌, ℕ, suc, ◌+◌, List, [], ◌∷◌, ◌++◌, append_assoc, Option, Some, None, refl, ap, ap₂, sym, subst, ◌∙◌}
+use Rattle.std.proofs.Common.{◌≡◌, ℕ, suc, ◌+◌, List, [], ◌∷◌, ◌++◌, Option, Some, None, refl, ap, ap₂, sym, subst, ◌∙◌}
 use Rattle.c_tree.specs.declared.value.IntType.{IntType}
 use Rattle.c_tree.specs.Tree.{CType, CTypes, more_types}
 use Rattle.c_tree.specs.Tree as typed
@@ -20,13 +20,13 @@ use Rattle.c_rules.specs.Expressions.{value, type_declared}
 use Rattle.c_rules.specs.Initialisers.{Slots, copies, each, slots, calls_of_maybe_init, held, held_in_turn, held_by, initialised_local, stores_from}
 use Rattle.c_rules.specs.Objects.{Object, object_declared}
 use Rattle.c_rules.specs.Variables.{Next, number_in, past_names, names_of_decl, names_of_first, names_of_stmt, names_of_stmts, calls_of_parts, calls_of_decl, calls_of_first, calls_of_stmt, calls_of_block, calls_of_stmts, calls_of_groups}
-use Rattle.c_rules.specs.Blocks.{within_local, behind_named, behind_part, past_part, behind_parts, behind_decl, behind_first, held_by_object, held_by_named, held_by_part, held_by_parts, held_by_decl, held_by_first, held_by_stmt, held_by_block, held_by_stmts, held_by_groups, after_part, after_decl, after_first, after_stmt, after_stmts, StatementTree, bare, with_tree, joined, one_more, alone, appended, some_more, local_of, local, local_named, local_part, local_parts, local_decl, is_given}
+use Rattle.c_rules.specs.Blocks.{within_local, behind_named, behind_part, past_part, behind_parts, behind_decl, behind_first, held_by_object, held_by_named, held_by_part, held_by_parts, held_by_decl, held_by_first, held_by_stmt, held_by_block, held_by_stmts, held_by_groups, after_part, after_decl, after_first, after_stmt, after_stmts, StatementTree, bare, with_tree, joined, one_more, alone, some_more, local_of, local, local_named, local_part, local_parts, local_decl, is_given}
 use Rattle.c_rules.specs.Statements.{Around, in_loop, in_switch, condition_at, test_of, step_of, first_of, for_of, switched_kind, switched, label_type, labels_of, Labelled, labelled, switch_of, returned, stmt, items_of_block, stmts, groups_of_switch}
 use Rattle.c_rules_laws.proofs.Holding.{Holds, on_holds, both_hold, all_three_hold, Any, anything, demand_holds, alone_holds, either}
 use Rattle.c_rules_laws.proofs.SitesOfExpressions.{fits_none, fits_both, FitsAt, Span, Counted, holds_with, range_append, value_counted}
-use Rattle.c_rules_laws.proofs.RightInitialisers.{InitCounted, local_counted, stores_sites}
+use Rattle.c_rules_laws.proofs.RightInitialisers.{InitCounted, local_counted}
 use Rattle.c_rules.proofs.NothingMore.{nothing_more}
-use Rattle.c_rules_laws.proofs.GatheredOfTypedExpressions.{Gathers, condition_gathered, as_if_gathered, converted_gathered}
+use Rattle.c_rules_laws.proofs.GatheredOfTypedExpressions.{Gathers, stores_gathered, appended_gathered, condition_gathered, as_if_gathered, converted_gathered}
 use Rattle.c_tree.specs.Sites.{all_sites}
 use Rattle.c_rules.specs.Functions.{with_parameter, with_parameters}
 
@@ -95,7 +95,7 @@ local_of_span : (env inner : Env) → inner.context ≡ evaluated → (b : Befor
 local_of_span env inner e b next x m o same =
     on_holds (InitCounted b (calls_of_maybe_init m) (held_by inner o.whole m)) (StmtSpan b (calls_of_maybe_init m) (held_by env o.whole m)) (initialised_local inner b o.whole m) _ (local_counted m inner e b o.whole)
     (λ gs h.
-    (let s : IsSpan b (calls_of_maybe_init m) (held_by env o.whole m) (sites_of_inits (stores_from 0 gs)) = (stores_sites 0 gs (Span b (calls_of_maybe_init m)) h.0, subst (λ ws. FitsAt b (calls_of_maybe_init m) ws) same h.1) in
+    (let s : IsSpan b (calls_of_maybe_init m) (held_by env o.whole m) (sites_of_inits (stores_from 0 gs)) = (stores_gathered all_sites 0 gs (Span b (calls_of_maybe_init m)) h.0, subst (λ ws. FitsAt b (calls_of_maybe_init m) ws) same h.1) in
     either (StmtSpan b (calls_of_maybe_init m) (held_by env o.whole m)) (is_added x.name) (record { tree = typed.declare (number_in next x.name) (stores_from 0 gs); plain = []; added = o.whole ∷ [] }) (record { tree = typed.declare (number_in next x.name) (stores_from 0 gs); plain = o.whole ∷ []; added = [] }) (λ _. s) s))
 
 local_span : (env : Env) → env.context ≡ evaluated → (b : Before) (next : Next) (x : Ident) (m : MaybeInit) (r : Checked Object) → Holds (StmtSpan b (calls_of_maybe_init m) (held_by_object env m r)) (local env b next x m r)
@@ -158,10 +158,6 @@ switched_sites : (at : ℕ) (xs : List ℕ) (g : TypedExpression) (k : Kind) →
 switched_sites at xs g (an_integer i) h = converted_gathered all_sites xs (promoted i) g h
 switched_sites at xs g k h = tt
 
-sites_appended : (ss us : typed.Stmts) → sites_of_stmts (appended ss us) ≡ sites_of_stmts ss ++ sites_of_stmts us
-sites_appended typed.no_stmts us = refl
-sites_appended (typed.more_stmts s ss) us = ap (λ xs. sites_of_stmt s ++ xs) (sites_appended ss us) ∙ sym (append_assoc (sites_of_stmt s) (sites_of_stmts ss) (sites_of_stmts us))
-
 abbrev GroupsSpan : Before → ℕ → List (List ℕ) → Labelled → Type 0
 GroupsSpan b n ws l = IsSpan b n ws (sites_of_groups l.groups.tree)
 
@@ -222,7 +218,7 @@ mutual
       let inner = behind_decl env next d in
       both_hold (StmtsSpan b (calls_of_decl d) (held_by_decl env next d)) (StmtsSpan (after_decl env b next d) (calls_of_block is) (held_by_block inner names is)) (StmtsSpan b (calls_of_decl d + calls_of_block is) (held_by_decl env next d ++ held_by_block inner names is))
       (local_decl env b next d) (items_of_block inner a (after_decl env b next d) names is) (λ p q. fine (some_more p q)) (decl_span d env c b next) (block_span is inner (decl_keeps (λ e. e.context) (λ _ _ _. refl) d env next ∙ c) a (after_decl env b next d) names)
-      (λ p q h k. (let r = span_both b (calls_of_decl d) (calls_of_block is) (held_by_decl env next d) (held_by_block inner names is) (sites_of_stmts p.tree) (sites_of_stmts q.tree) h k in (sites_appended p.tree q.tree ∙ r.0, r.1)))
+      (λ p q h k. (let r = span_both b (calls_of_decl d) (calls_of_block is) (held_by_decl env next d) (held_by_block inner names is) (sites_of_stmts p.tree) (sites_of_stmts q.tree) h k in (appended_gathered all_sites p.tree q.tree ∙ r.0, r.1)))
   block_span (block_stmt s is) env c a b next =
       let names = past_names next (names_of_stmt s) in
       both_hold (StmtSpan b (calls_of_stmt s) (held_by_stmt env next s)) (StmtsSpan (after_stmt env b next s) (calls_of_block is) (held_by_block env names is)) (StmtsSpan b (calls_of_stmt s + calls_of_block is) (held_by_stmt env next s ++ held_by_block env names is))

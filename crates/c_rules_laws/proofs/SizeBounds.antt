@@ -3,7 +3,7 @@ use Rattle.std.proofs.Common.{◌≡◌, ◌⊎◌, inl, inr, ℕ, zero, suc, �
 use Rattle.c_tree.specs.declared.value.IntType.TheVariants.{Int, Uint}
 use Rattle.c_tree.specs.Tree.{CType, integer, pointer, array, struct}
 use Rattle.c_tree.specs.Layout.{Structs, members_of, flat_with, flat_all_with, layout, struct_cells, cells, Extent, round_up, put_after, extent_with, extent_after, rounded, struct_extent, sizeof}
-use Rattle.c_meaning_laws.proofs.Places.{length_repeat}
+use Rattle.c_meaning.proofs.Places.{length_repeat}
 use Rattle.c_rules.proofs.Greater.{greater}
 
 -- an extent beside so many cells

@@ -8,7 +8,7 @@ use Rattle.c_tree.specs.Tree.{CType, integer, pointer, array, struct}
 use Rattle.c_tree.specs.Layout.{Structs, or_none, repeat, flat_with, flat_all_with, layout, struct_cells, flat, flat_all, cells, cells_of_all}
 use Rattle.c_tree.specs.Operands.{IsComplete, IsObject}
 use Rattle.c_tree.specs.Program.{IsBelow, AreStructs}
-use Rattle.c_meaning_laws.proofs.Places.{struct_is}
+use Rattle.c_meaning.proofs.Places.{struct_is}
 use Rattle.c_rules_laws.specs.MadeTypes.{NotArray, Made}
 use Rattle.c_rules_laws.specs.SoundStructs.{defined_among, AreSound, Grows}
 use Rattle.c_rules_laws.proofs.MadeTypes.{complete_kept, made_kept}

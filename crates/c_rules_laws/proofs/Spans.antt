@@ -21,7 +21,7 @@ use Rattle.c_rules.specs.Items.{Output, no_output, with_output, static_of, outpu
 use Rattle.c_rules_laws.specs.Lexical.{IsUnitLexical}
 use Rattle.c_rules_laws.proofs.Holding.{held, first_fine, demand_fine, each_both}
 use Rattle.c_rules_laws.proofs.Definitions.{definition_fine}
-use Rattle.c_meaning_laws.proofs.Differences.{has_cell}
+use Rattle.c_meaning.proofs.Differences.{has_cell}
 use Rattle.c_rules_laws.proofs.SoundStructs.{are_structs}
 use Rattle.c_rules_laws.proofs.SitesOfExpressions.{AreShort, FitsAt, Span, range_append}
 use Rattle.c_rules_laws.proofs.RightInitialisers.{AllKnown, known_sites, InitCounted, static_counted}

@@ -13,7 +13,7 @@ use Rattle.c_rules.specs.Initialisers.{typed_char, value_of_cell}
 use Rattle.c_rules.specs.Units.{static_string}
 use Rattle.c_rules_laws.proofs.RightTypedExpressions.{constant_value}
 use Rattle.c_rules_laws.proofs.SitesOfExpressions.{AreShort}
-use Rattle.c_meaning_laws.proofs.Places.{length_repeat}
+use Rattle.c_meaning.proofs.Places.{length_repeat}
 
 module _ (p : Program) where
   char_typed : (c : ℕ) → HasType p (static_objects p) (integer Char) (value_of_cell (typed_char c))

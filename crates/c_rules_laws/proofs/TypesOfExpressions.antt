@@ -26,7 +26,7 @@ use Rattle.c_rules.specs.Assignments.{assignable, assignment_by, step, comma_of}
 use Rattle.c_rules.specs.Declarators.{name_of, place_or, place_of_type, is_void_pointer, type_of_spec, within_parts, pointer_to, array_of, function_of, parameter_of, with_name_demands, behind_parameter, new_name}
 use Rattle.c_rules.specs.Expressions.{value_at, place_at, callee, access, after_operand, before_operand, unary_rule, infix_rule, cast_rule, tree, trees, type_named, declared, size_in, parameters, value, type_declared}
 use Rattle.c_rules.proofs.Integers.{integer_cases, size_holds}
-use Rattle.c_meaning_laws.proofs.Places.{length_repeat}
+use Rattle.c_meaning.proofs.Places.{length_repeat}
 use Rattle.c_rules_laws.specs.Lexical.{IsLexical, AreLexical}
 use Rattle.c_rules_laws.specs.MadeTypes.{Made, AllMade}
 use Rattle.c_rules_laws.specs.RightScopes.{MeaningTyped, IsKnown}

@@ -25,7 +25,7 @@ use Rattle.c_rules.specs.Variables.{Next, past_names, names_of_block}
 use Rattle.c_rules.specs.Blocks.{held_by_block, StatementTree}
 use Rattle.c_rules.specs.Statements.{Around, items_of_block}
 use Rattle.c_rules.specs.Functions.{declares_function, parameters_of, are_named, count_params, with_parameter, with_parameters, variables_of, function_laid, body_env, body_numbers, body_of, held_by_type, defined_as}
-use Rattle.c_meaning_laws.proofs.Places.{get_left, get_right, scalar_object}
+use Rattle.c_meaning.proofs.Places.{get_left, get_right, scalar_object}
 use Rattle.c_rules_laws.specs.Lexical.{AreItemsLexical}
 use Rattle.c_rules_laws.specs.MadeTypes.{Made, AllMade, IsSized}
 use Rattle.c_rules_laws.specs.RightScopes.{IsRight, StringsIn}

@@ -20,7 +20,7 @@ use Rattle.c_rules.specs.Objects.{Object}
 use Rattle.c_rules.specs.Functions.{parameters_of, is_defined_by, declares_function, held_by_type, items_of_body, defined_as}
 use Rattle.c_rules.specs.Items.{Output, with_output, static_of, output_of_function, behind_global, within_global, after_object, behind_defined}
 use Rattle.c_rules.proofs.NothingMore.{nothing_more}
-use Rattle.c_meaning_laws.proofs.Places.{get_left, get_right}
+use Rattle.c_meaning.proofs.Places.{get_left, get_right}
 use Rattle.c_rules_laws.specs.Lexical.{IsMaybeInitLexical, IsStmtLexical, AreItemsLexical}
 use Rattle.c_rules_laws.specs.MadeTypes.{Made, IsSized}
 use Rattle.c_rules_laws.specs.RightScopes.{MeaningRight, IsRight, StringsIn}
@@ -40,6 +40,10 @@ use Rattle.c_rules_laws.proofs.UnitShape.{just_declared}
 use Rattle.c_rules_laws.proofs.NamesOfItems.{Gives, starts, declares, an_object, a_definition, one_and_more, gives_step}
 use Rattle.c_rules_laws.proofs.Spans.{gives_spans}
 use Rattle.c_rules.specs.Names.{Name}
+
+pub body_lexical : (body : Stmt) → IsStmtLexical body → AreItemsLexical (items_of_body body)
+body_lexical (syntax.block at is) h = h
+body_lexical body h = (h, tt)
 
 -- ## Strings
 
@@ -72,10 +76,6 @@ module _ (p : Program) (last : Env) (table : IsTable p last) (all : List (List �
 
   output_both : (q r : Output) → IsOutputRight q → IsOutputRight r → IsOutputRight (with_output q r)
   output_both q r h k = (each_both (IsFunction p) q.functions r.functions h.0 k.0, each_both (IsStatic p) q.statics r.statics h.1 k.1)
-
-  body_lexical : (body : Stmt) → IsStmtLexical body → AreItemsLexical (items_of_body body)
-  body_lexical (syntax.block at is) h = h
-  body_lexical body h = (h, tt)
 
   definition_right : (env : Env) (b : Before) (at : ℕ) (s : Spec) (d : Declarator) (body : Stmt) (x : Ident) (u : CType) (f : Function) → declares_function d ≡ true → IsStmtLexical body → type_declared env at s d ≡ fine u → defined_as (behind_defined env at s d x) b (place_or at d) d x (items_of_body body) u ≡ fine f
       → Step env (behind_defined env at s d x) → Follows (behind_defined env at s d x) last → Begins (b.strings ++ held_by_type (behind_defined env at s d x) d (items_of_body body) u) all → IsOutputRight (output_of_function f)

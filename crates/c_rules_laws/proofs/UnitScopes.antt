@@ -15,7 +15,7 @@ use Rattle.c_rules_laws.specs.RightScopes.{MeaningRight, IsRight}
 use Rattle.c_rules_laws.specs.SoundStructs.{AreSound, Grows}
 use Rattle.c_rules_laws.specs.RightScopes.{IsThing}
 use Rattle.c_rules_laws.proofs.RightTypedExpressions.{complete_thing}
-use Rattle.c_meaning_laws.proofs.Places.{get_left, get_right, get_before}
+use Rattle.c_meaning.proofs.Places.{get_left, get_right, get_before}
 use Rattle.c_rules_laws.proofs.RightExpressions.{number_below}
 use Rattle.c_rules_laws.proofs.FileScopes.{FileMeaning, IsFileRight, Agrees, Follows}
 use Rattle.c_rules.proofs.BelowUnits.{twenty_four}

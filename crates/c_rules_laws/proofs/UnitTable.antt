@@ -17,7 +17,7 @@ use Rattle.c_rules.specs.PrimaryExpressions.{string_type}
 use Rattle.c_rules.specs.Items.{Output, items}
 use Rattle.c_rules.specs.Units.{functions_of, objects_of, whole_of, env_before, env_behind, strings_of, has_main, static_string, program_of, IsTyped}
 use Rattle.c_rules.proofs.CheckedLemmas.{items_fine}
-use Rattle.c_meaning_laws.proofs.Places.{get_left, get_right}
+use Rattle.c_meaning.proofs.Places.{get_left, get_right}
 use Rattle.c_rules_laws.specs.Lexical.{IsUnitLexical}
 use Rattle.c_rules_laws.specs.SoundStructs.{AreSound}
 use Rattle.c_rules_laws.specs.WellTyped.{IsRightObject, PartsAreRight}

@@ -3,6 +3,7 @@
 -- typed unit are well-typed), Programs (the unit is a well-typed program), PlaceLaws (the places of nodes don't
 -- matter), TypedAlike and EnvironmentLaws (parts that stay as they are in an instrumented unit).
 -- None is for private contracts and proofs alone.
+pub mod AreSites
 pub mod ConstantForm
 pub mod EnvironmentLaws
 pub mod Lexical

@@ -5,7 +5,7 @@ ghost use Rattle.c_tree.specs.Tree.{Program};
 ghost use Rattle.c_tree.specs.Program.{IsProgram};
 ghost use Rattle.c_rules.specs.Accepted.{IsAcceptedAs};
 ghost use Rattle.c_rules_laws.specs.WellTyped.{PartsAreRight};
-ghost use Rattle.c_meaning_laws.specs.WithoutNullCalls.{MakesNoNullCall};
+ghost use Rattle.c_meaning.specs.WithoutNullCalls.{MakesNoNullCall};
 
 use crate::program_laws::a_typed_unit_is_a_program;
 use crate::unit_laws::{a_spelled_unit_is_lexical, units_are_well_typed};

@@ -2,6 +2,7 @@ pub mod BackTokens
 pub mod FormRows
 pub mod HeightLemmas
 pub mod Lists
+pub mod NodeRows
 pub mod Rows
 pub mod TokenTexts
 pub mod UnitRows

@@ -8,6 +8,7 @@ pub mod Grammar
 pub mod Limits
 pub mod Print
 pub mod Same
+pub mod SeenNames
 pub mod Specifiers
 pub mod Spelling
 pub mod Statements

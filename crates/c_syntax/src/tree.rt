@@ -1,12 +1,20 @@
 use c_lexer::Bytes;
 
 /// A name that is declared or used, and its place.
-#[derive(Drop)]
 pub struct Ident {
     /// The name.
     pub name: Bytes,
     /// The place of its first byte.
     pub at: u32,
+}
+
+impl Drop for Ident {
+    fn drop(self) {
+        let Self {
+            name: _name,
+            at: _at,
+        } = self;
+    }
 }
 
 /// A storage-class specifier (C99 6.7.1).
@@ -222,12 +230,20 @@ pub enum InitKind {
 }
 
 /// A declarator, perhaps with an initialiser.
-#[derive(Drop)]
 pub struct DeclPart {
     /// The declarator, which has a name.
     pub declarator: Declarator,
     /// Its initialiser.
     pub init: Option<Init>,
+}
+
+impl Drop for DeclPart {
+    fn drop(self) {
+        let Self {
+            declarator: _declarator,
+            init: _init,
+        } = self;
+    }
 }
 
 /// A declaration (C99 6.7).
@@ -368,7 +384,6 @@ pub enum BlockItem {
 }
 
 /// One or more labels of a switch, and one or more statements after them.
-#[derive(Drop)]
 #[cycle(statement)]
 pub struct Group {
     /// The labels.
@@ -377,8 +392,17 @@ pub struct Group {
     pub body: Vec<Stmt>,
 }
 
+impl Drop for Group {
+    #[cycle(statements_let_go)]
+    fn drop(self) {
+        let Self {
+            labels: _labels,
+            body: _body,
+        } = self;
+    }
+}
+
 /// Members of a struct (C99 6.7.2.1).
-#[derive(Drop)]
 pub struct Member {
     /// Their specifiers.
     pub spec: Spec,
@@ -388,13 +412,31 @@ pub struct Member {
     pub at: u32,
 }
 
+impl Drop for Member {
+    fn drop(self) {
+        let Self {
+            spec: _spec,
+            declarators: _declarators,
+            at: _at,
+        } = self;
+    }
+}
+
 /// An enumerator (C99 6.7.2.2).
-#[derive(Drop)]
 pub struct Enumerator {
     /// Its name.
     pub name: Ident,
     /// Its value, where one stands.
     pub value: Option<Expr>,
+}
+
+impl Drop for Enumerator {
+    fn drop(self) {
+        let Self {
+            name: _name,
+            value: _value,
+        } = self;
+    }
 }
 
 /// What stands at file scope (C99 6.9).

@@ -21,7 +21,7 @@ use Rattle.c_syntax.specs.View.{spec_of, expr_at, expr_of, type_name_of, declara
 use Rattle.c_syntax.specs.UnitView.{init_at, init_of, parts_of, label_before, labels_of, declarators_of, members_of, enumerators_of}
 use Rattle.c_syntax.specs.Writes.{exprs_of, params_of, declarator_in, declarator_behind, expr_behind}
 use Rattle.c_syntax.specs.WritesUnit.{inits_of}
-use Rattle.c_check_counts.proofs.Rows.{comma_is, call_is, type_name_is, param_is, pointer_is, array_is, function_is, list_is}
+use Rattle.c_syntax.proofs.NodeRows.{comma_is, call_is, type_name_is, param_is, pointer_is, array_is, function_is, list_is}
 use Rattle.c_syntax_nodes.specs.Copied.{param_of, label_of, part_of, member_of, enumerator_of}
 
 -- ## Lists

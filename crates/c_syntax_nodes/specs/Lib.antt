@@ -1,2 +1,1 @@
 pub mod Copied
-pub use Rattle.c_check_counts.specs.Seen

@@ -1,14 +1,11 @@
-//! Laws on the grammar of the C profile (C99 6.5, 6.7, 6.8, 6.9): what a list of tokens spells, and where a
-//! phrase ends. It has no code but its laws.
-//! Where no tokens can go on, and where they go on past the limits of nesting (C99 6.5 to 6.9): definitions, laws, and little code.
+//! The text of a unit of the C profile (C99 6.9), as it is printed, and how long it is, known before it is made; and laws on the grammar.
 //!
+//! - What a list of tokens spells, and where a phrase ends (C99 6.5, 6.7, 6.8, 6.9).
 //! - Where no tokens can go on: what it means that a phrase of the grammar fails at a token, how failures of parts become those of the
 //!   whole, and what is left of statements and operands after their first token (C99 6.5, 6.8).
 //! - Where tokens go on past the limits of nesting, in statements, declarations, items and units: a node or a pair too many in a part is
 //!   one in the whole (C99 6.7 to 6.9).
-//! The text of a unit of the C profile (C99 6.9), as it is printed; and laws on units that can be written (6.4): those that tokens
-//! spell are such, and their printed texts are read back.
-//! How long the printed text of a unit of the C profile is, known before it is made.
+//! - Units that can be written (C99 6.4): those that tokens spell are such, and their printed texts are read back.
 #![tactic(auto)]
 
 mod declaration_lengths;

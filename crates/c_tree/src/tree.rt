@@ -141,12 +141,20 @@ pub enum TExprKind {
 }
 
 /// What an initialiser stores in one cell (C99 6.7.8).
-#[derive(Drop)]
 pub struct TInit {
     /// The cell of the variable.
     pub cell: u32,
     /// The value.
     pub value: TExpr,
+}
+
+impl Drop for TInit {
+    fn drop(self) {
+        let Self {
+            cell: _,
+            value: _value,
+        } = self;
+    }
 }
 
 /// A label of a switch (C99 6.8.1).
@@ -159,7 +167,6 @@ pub enum TLabel {
 }
 
 /// A statement (C99 6.8), or the declaration of one variable in a block (6.7).
-#[derive(Drop)]
 #[cycle(statement)]
 pub enum TStmt {
     /// A block (6.8.2); the variables that are declared directly in it end with it.
@@ -224,8 +231,46 @@ pub enum TStmt {
     Return(Option<TExpr>),
 }
 
+impl Drop for TStmt {
+    #[cycle(statements_let_go)]
+    fn drop(self) {
+        match self {
+            TStmt::Block(_body) => {}
+            TStmt::Expr(_e) => {}
+            TStmt::Declare {
+                variable: _,
+                init: _init,
+            } => {}
+            TStmt::If {
+                test: _test,
+                yes: _yes,
+                no: _no,
+            } => {}
+            TStmt::While {
+                test: _test,
+                body: _body,
+            } => {}
+            TStmt::Do {
+                body: _body,
+                test: _test,
+            } => {}
+            TStmt::For {
+                first: _first,
+                test: _test,
+                step: _step,
+                body: _body,
+            } => {}
+            TStmt::Switch {
+                on: _on,
+                groups: _groups,
+            } => {}
+            TStmt::Return(_value) => {}
+            TStmt::Empty | TStmt::Break | TStmt::Continue => {}
+        }
+    }
+}
+
 /// Labels of a switch, and the statements after them.
-#[derive(Drop)]
 #[cycle(statement)]
 pub struct TGroup {
     /// The labels.
@@ -234,8 +279,17 @@ pub struct TGroup {
     pub body: Vec<TStmt>,
 }
 
+impl Drop for TGroup {
+    #[cycle(statements_let_go)]
+    fn drop(self) {
+        let Self {
+            labels: _labels,
+            body: _body,
+        } = self;
+    }
+}
+
 /// The members of a struct (C99 6.7.2.1).
-#[derive(Drop)]
 pub enum StructMembers {
     /// The struct has no definition.
     Undefined,
@@ -243,8 +297,16 @@ pub enum StructMembers {
     Defined(Vec<CType>),
 }
 
+impl Drop for StructMembers {
+    fn drop(self) {
+        match self {
+            StructMembers::Undefined => {}
+            StructMembers::Defined(_members) => {}
+        }
+    }
+}
+
 /// A defined function (C99 6.9.1).
-#[derive(Drop)]
 pub struct Function {
     /// Its name.
     pub name: Bytes,
@@ -256,8 +318,18 @@ pub struct Function {
     pub body: TStmt,
 }
 
+impl Drop for Function {
+    fn drop(self) {
+        let Self {
+            name: _name,
+            ctype: _ctype,
+            variables: _variables,
+            body: _body,
+        } = self;
+    }
+}
+
 /// A static object or a string literal (C99 6.2.4 paragraph 3, 6.4.5).
-#[derive(Drop)]
 pub struct Static {
     /// Its type.
     pub ctype: CType,
@@ -265,4 +337,14 @@ pub struct Static {
     pub cells: Vec<Value>,
     /// Whether it is a string literal, which can't be stored to.
     pub string: bool,
+}
+
+impl Drop for Static {
+    fn drop(self) {
+        let Self {
+            ctype: _ctype,
+            cells: _cells,
+            string: _,
+        } = self;
+    }
 }

@@ -9,10 +9,18 @@ use crate::kinds::kind;
 use c_tree::{Kind, Pointer, Value};
 
 // An object: the values of its cells, and whether it is a string literal.
-#[derive(Drop)]
 pub struct Held {
     pub cells: Vec<Value>,
     pub string: bool,
+}
+
+impl Drop for Held {
+    fn drop(self) {
+        let Self {
+            cells: _cells,
+            string: _string,
+        } = self;
+    }
 }
 
 // The first cell of the element that is pointed to.

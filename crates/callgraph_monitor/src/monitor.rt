@@ -23,10 +23,18 @@ use std::sync::ledger::{Blank, Ledger};
 /// What the callgraph monitors of one model share: working space, and for each node of the model the
 /// nodes to which one step that reads nothing leads from it. Seen as these two. It takes memory only
 /// when it is made, in proportion to the model's nodes, edges and candidate entries.
-#[derive(Drop)]
 pub struct CallgraphPool {
     scratch: Scratch,
     quiet: QuietEdges,
+}
+
+impl Drop for CallgraphPool {
+    fn drop(self) {
+        let Self {
+            scratch: _scratch,
+            quiet: _quiet,
+        } = self;
+    }
 }
 
 impl std::marker::Model for CallgraphPool {
@@ -40,9 +48,16 @@ impl std::marker::Model for CallgraphPool {
 /// A monitor of the callgraph model, seen as the set of the nodes where a walk may end that reads the
 /// system calls of the history. The set is empty exactly where the history was rejected. All memory
 /// is taken by `open` and `copy`.
-#[derive(Drop)]
 pub struct CallgraphMonitor {
     standing: NodeSet,
+}
+
+impl Drop for CallgraphMonitor {
+    fn drop(self) {
+        let Self {
+            standing: _standing,
+        } = self;
+    }
 }
 
 impl std::marker::Model for CallgraphMonitor {

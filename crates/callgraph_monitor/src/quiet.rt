@@ -15,10 +15,18 @@ use std::alloc::{AllocError, Global};
 /// For each node of a model the nodes to which one step that reads nothing leads from it: along a
 /// silent edge, into a candidate of a call that leaves it, or, where it is the exit of a function,
 /// behind each call that may enter this function. Seen as the list of these lists.
-#[derive(Drop)]
 pub struct QuietEdges {
     starts: Vec<usize>,
     ends: Vec<u32>,
+}
+
+impl Drop for QuietEdges {
+    fn drop(self) {
+        let Self {
+            starts: _starts,
+            ends: _ends,
+        } = self;
+    }
 }
 
 impl std::marker::Model for QuietEdges {

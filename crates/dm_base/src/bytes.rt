@@ -5,9 +5,14 @@ use std::alloc::Global;
 use std::marker::Model;
 
 /// Bytes that are owned, seen as their list.
-#[derive(Drop)]
 pub struct Bytes {
     held: Vec<u8>,
+}
+
+impl Drop for Bytes {
+    fn drop(self) {
+        let Self { held: _held } = self;
+    }
 }
 
 impl Model for Bytes {

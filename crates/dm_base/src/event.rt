@@ -7,12 +7,20 @@ use std::alloc::Global;
 use std::marker::Model;
 
 /// An argument of a system call, as it was recorded.
-#[derive(Drop)]
 pub enum Arg {
     /// A number.
     Int(i64),
     /// The bytes of a buffer, or of a path before its zero.
     Bytes(Bytes),
+}
+
+impl Drop for Arg {
+    fn drop(self) {
+        match self {
+            Arg::Int(_) => {}
+            Arg::Bytes(_bytes) => {}
+        }
+    }
 }
 
 impl Arg {
@@ -34,9 +42,14 @@ impl Default for Arg {
 }
 
 /// The recorded arguments of a system call, at most three, seen as their list.
-#[derive(Drop)]
 pub struct ArgList {
     held: ArrayVec<Arg, 3>,
+}
+
+impl Drop for ArgList {
+    fn drop(self) {
+        let Self { held: _held } = self;
+    }
 }
 
 impl Model for ArgList {
@@ -94,7 +107,6 @@ impl ArgList {
 }
 
 /// One event of a trace.
-#[derive(Drop)]
 pub enum Event {
     /// A system call with its recorded arguments and its result.
     Sys {
@@ -106,6 +118,19 @@ pub enum Event {
     Pre(u32),
     /// The null call after the call at a site.
     Post(u32),
+}
+
+impl Drop for Event {
+    fn drop(self) {
+        match self {
+            Event::Sys {
+                name: _,
+                args: _args,
+                result: _,
+            } => {}
+            Event::Pre(_) | Event::Post(_) => {}
+        }
+    }
 }
 
 impl Event {

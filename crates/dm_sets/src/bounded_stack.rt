@@ -6,10 +6,18 @@ use std::marker::Model;
 
 /// A stack of numbers that holds at most so many as its bound, seen as its entries, the newest first,
 /// and its bound.
-#[derive(Drop)]
 pub struct BoundedStack {
     most: u32,
     entries: Vec<u32>,
+}
+
+impl Drop for BoundedStack {
+    fn drop(self) {
+        let Self {
+            most: _most,
+            entries: _entries,
+        } = self;
+    }
 }
 
 impl Model for BoundedStack {

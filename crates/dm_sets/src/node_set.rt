@@ -14,7 +14,6 @@ const WORD: u32 = 64;
 /// A set of numbers below its size, seen as its size and its members. It is a bit set: each member is
 /// a bit of a machine word. It knows between which numbers its members are, so that members that stand
 /// close together cost no more than the words between them.
-#[derive(Drop)]
 pub struct NodeSet {
     limit: u32,
     // No member is below it.
@@ -22,6 +21,17 @@ pub struct NodeSet {
     // All members are below it.
     high: u32,
     words: Vec<u64>,
+}
+
+impl Drop for NodeSet {
+    fn drop(self) {
+        let Self {
+            limit: _limit,
+            low: _low,
+            high: _high,
+            words: _words,
+        } = self;
+    }
 }
 
 impl Model for NodeSet {

@@ -25,11 +25,20 @@ use std::sync::ledger::Ledger;
 /// sites: the monitor keeps those, the newest first, and the set of the nodes at which the runs end. Seen as these, with its last answer.
 /// All its memory is taken when it is opened or copied. It needs of its pool only the space to list
 /// nodes, and monitors of different processes may share one.
-#[derive(Drop)]
 pub struct DyckMonitor {
     nodes: NodeSet,
     sites: BoundedStack,
     last: Step,
+}
+
+impl Drop for DyckMonitor {
+    fn drop(self) {
+        let Self {
+            nodes: _nodes,
+            sites: _sites,
+            last: _last,
+        } = self;
+    }
 }
 
 impl std::marker::Model for DyckMonitor {

@@ -10,8 +10,8 @@ use Rattle.dm_base.specs.declared.outcome.Outcome.TheVariants.{Exit, Undefined, 
 use Rattle.dm_base.specs.declared.verdict.Verdict.TheVariants as verdicts
 use Rattle.sys_table.specs.Table.{IsRecorded}
 use Rattle.c_meaning.specs.Runs.{Run}
-use Rattle.c_meaning_laws.specs.Laws.{IsTypedRun}
-use Rattle.c_meaning_laws.specs.TypedResults.{IsEnding}
+use Rattle.c_meaning.specs.Laws.{IsTypedRun}
+use Rattle.c_meaning.specs.TypedResults.{IsEnding}
 use Rattle.flow_model.specs.declared.which.Which.{Which}
 use Rattle.flow_model.specs.Graph.{Graph}
 use Rattle.flow_model.specs.Verdict.{IsVerdict}

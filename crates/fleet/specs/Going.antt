@@ -10,7 +10,7 @@ use Rattle.dm_base.specs.declared.verdict.Verdict.TheVariants as verdicts
 use Rattle.sys_table.specs.declared.sys_result.SysResult.{SysResult}
 use Rattle.c_tree.specs.Tree.{Program}
 use Rattle.c_meaning.specs.Runs.{Run, run}
-use Rattle.c_meaning_laws.specs.Laws.{IsTypedRun}
+use Rattle.c_meaning.specs.Laws.{IsTypedRun}
 use Rattle.flow_model.specs.declared.monitor.Monitor as monitor
 use Rattle.flow_model.specs.declared.which.Which.{Which}
 use Rattle.flow_model.specs.Graph.{Graph}

@@ -3,7 +3,7 @@ use crate::process::Process;
 use crate::stepping::advance_at;
 use crate::telling::standing_at;
 use crate::{Advance, Standing};
-use c_meaning_laws::values_have_kinds;
+use c_meaning::values_have_kinds;
 use c_tree::Program;
 use dm_base::OutOfMemory;
 use flow_model::{Model, Monitor};

@@ -6,11 +6,11 @@ use Rattle.sys_table.specs.Table.{name_of}
 use Rattle.c_tree.specs.Tree.{Function, Program}
 use Rattle.c_tree.specs.Functions.{defined, name_where, name_of_function}
 use Rattle.c_tree.specs.Program.{IsProgram}
-use Rattle.c_meaning_laws.specs.ShapeOf.{taken_calls, names_of_functions}
+use Rattle.c_meaning.specs.ShapeOf.{taken_calls, names_of_functions}
 use Rattle.flow_graph.specs.declared.shape.Shape.{Shape as Tree}
 use Rattle.flow_graph.specs.View.{shape_of, shapes_in}
-use Rattle.c_meaning_laws.specs.GraphOf.{functions_from}
-use Rattle.c_meaning_laws.specs.GraphLayout.{width}
+use Rattle.c_meaning.specs.GraphOf.{functions_from}
+use Rattle.c_meaning.specs.GraphLayout.{width}
 use Rattle.flow_graph.proofs.RecordLemmas.{dropped_all}
 use Rattle.flow_graph.proofs.TakenLemmas.{small_taken}
 

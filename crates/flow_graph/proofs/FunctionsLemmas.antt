@@ -3,9 +3,9 @@ use Rattle.std.proofs.Common.{◌≡◌, ℕ, zero, suc, ◌+◌, ◌<◌, ◌�
 use Rattle.std.proofs.lemmas.List.{append-nil, append_assoc, take_more, map-append}
 use Rattle.flow_graph.specs.declared.shape.Shape.{Shape as Tree}
 use Rattle.flow_graph.specs.View.{shape_of, shapes_in}
-use Rattle.c_meaning_laws.specs.Shape.{Shape}
-use Rattle.c_meaning_laws.specs.GraphLayout.{Edge, ends, width, edges}
-use Rattle.c_meaning_laws.specs.GraphOf.{nodes_from, edges_from}
+use Rattle.c_meaning.specs.Shape.{Shape}
+use Rattle.c_meaning.specs.GraphLayout.{Edge, ends, width, edges}
+use Rattle.c_meaning.specs.GraphOf.{nodes_from, edges_from}
 
 nodes_append : (n : ℕ) (xs : List Shape) (S : Shape) → nodes_from n (xs ++ S ∷ []) ≡ nodes_from n xs + 2 + width S
 nodes_append n [] S = refl

@@ -8,9 +8,9 @@ use Rattle.std.proofs.lemmas.List.{append-nil, append_assoc, length-drop}
 use Rattle.flow_graph.specs.declared.shape.Shape.{Shape as Tree}
 use Rattle.dm_base.proofs.ListLemmas.{two_parts}
 use Rattle.flow_graph.specs.View.{shape_of, parts_of}
-use Rattle.c_meaning_laws.specs.Shape.{Shape, Alt, Loop, Do, Seq, Cases, End, Part}
-use Rattle.c_meaning_laws.specs.Walks.{Silent}
-use Rattle.c_meaning_laws.specs.GraphLayout.{Edge, edge, Places, head, width, widths, count, edges, edges_of_parts, body, to_each}
+use Rattle.c_meaning.specs.Shape.{Shape, Alt, Loop, Do, Seq, Cases, End, Part}
+use Rattle.c_meaning.specs.Walks.{Silent}
+use Rattle.c_meaning.specs.GraphLayout.{Edge, edge, Places, head, width, widths, count, edges, edges_of_parts, body, to_each}
 
 pub parts_many : (ts : List Tree) → count (parts_of ts) ≡ length ts
 parts_many [] = refl

@@ -1,3 +1,14 @@
+pub mod BelowOrAt
+pub mod CallersLemmas
+pub mod CallsLemmas
+pub mod MadeCallGraph
+pub mod Members
+pub mod NamingLemmas
+pub mod PlaceLemmas
+pub mod ReachingLemmas
+pub mod SayingLemmas
+pub mod SitesLemmas
+pub mod TypesLemmas
 pub mod Rows
 pub mod PartsLemmas
 pub mod LayingLemmas

@@ -5,9 +5,9 @@ use Rattle.flow_graph.specs.declared.edge.Edge.{Edge as EdgeTree}
 use Rattle.flow_graph.specs.Edges.{edge_of, edges_in}
 use Rattle.flow_model.specs.declared.records.SilentEdge.{SilentEdge}
 use Rattle.flow_model.specs.declared.records.SysEdge.{SysEdge}
-use Rattle.c_meaning_laws.specs.Walks.{Silent, System, Site}
-use Rattle.c_meaning_laws.specs.GraphLayout.{Edge, edge}
-use Rattle.c_meaning_laws.specs.GraphOf.{silent_edges, sys_edges}
+use Rattle.c_meaning.specs.Walks.{Silent, System, Site}
+use Rattle.c_meaning.specs.GraphLayout.{Edge, edge}
+use Rattle.c_meaning.specs.GraphOf.{silent_edges, sys_edges}
 
 silent_append : (xs ys : List Edge) → silent_edges (xs ++ ys) ≡ silent_edges xs ++ silent_edges ys
 silent_append [] ys = refl

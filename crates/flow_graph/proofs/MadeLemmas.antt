@@ -2,17 +2,17 @@
 use Rattle.std.proofs.Common.{◌≡◌, ℕ, ◌<◌, ◌≤◌, min, List, length, map, sym, ap, ap₂, ◌∙◌, subst, arith}
 use Rattle.c_tree.specs.Tree.{Program}
 use Rattle.c_tree.specs.Program.{IsProgram}
-use Rattle.c_meaning_laws.specs.Shape.{Shape}
-use Rattle.c_meaning_laws.specs.ShapeOf.{shapes_of_functions, names_of_functions, candidate_places, shapes_of}
+use Rattle.c_meaning.specs.Shape.{Shape}
+use Rattle.c_meaning.specs.ShapeOf.{shapes_of_functions, names_of_functions, candidate_places, shapes_of}
 use Rattle.flow_graph.specs.SiteEdges.{site_edges, site_edge_order}
 use Rattle.flow_model.specs.Built.{Records, graph_of_records}
 use Rattle.flow_model.specs.Graph.{Graph}
 use Rattle.flow_model.specs.Order.{silent_order, sys_order}
 use Rattle.flow_model.specs.Rules.{IsInOrder, IsValid, IsLeastBroken}
-use Rattle.c_meaning_laws.specs.GraphOf.{functions_from, edges_from, nodes_from, silent_edges, sys_edges}
-use Rattle.c_meaning_laws.specs.GraphOfProgram.{graph_of_program}
-use Rattle.c_meaning_laws.specs.Sorted.{sorted}
-use Rattle.c_meaning_laws.proofs.ProgramsClosed.{closed, many_names}
+use Rattle.c_meaning.specs.GraphOf.{functions_from, edges_from, nodes_from, silent_edges, sys_edges}
+use Rattle.c_meaning.specs.GraphOfProgram.{graph_of_program}
+use Rattle.c_meaning.specs.Sorted.{sorted}
+use Rattle.c_meaning.proofs.ProgramsClosed.{closed, many_names}
 use Rattle.std.proofs.lemmas.List.{length-map}
 use Rattle.flow_graph.specs.declared.shape.Shape.{Shape as Tree}
 use Rattle.flow_graph.specs.View.{shape_of, shapes_in}

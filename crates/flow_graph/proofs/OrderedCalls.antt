@@ -3,21 +3,21 @@ use Rattle.std.proofs.Common.{◌≡◌, ℕ, zero, suc, List, [], ◌∷◌, ma
 use Rattle.std.specs.Ordering.{nat_cmp, ordering_then}
 use Rattle.std.specs.declared.cmp.Ordering.{Ordering}
 use Rattle.std.specs.declared.cmp.Ordering.TheVariants.{Less, Equal, Greater}
-use Rattle.c_meaning_laws.specs.Shape.{Shapes}
-use Rattle.c_meaning_laws.specs.Walks.{Silent, System, Site}
+use Rattle.c_meaning.specs.Shape.{Shapes}
+use Rattle.c_meaning.specs.Walks.{Silent, System, Site}
 use Rattle.flow_graph.specs.declared.sites.SiteEdge.{SiteEdge}
 use Rattle.flow_graph.specs.SiteEdges.{site_edges, site_edge_order}
 use Rattle.flow_graph.proofs.SiteOrder.{site_edges_tie}
 use Rattle.flow_model.specs.Order.{site_order}
 use Rattle.flow_model.proofs.OrderLemmas.{numbers_tie}
-use Rattle.c_meaning_laws.specs.GraphLayout.{Edge, edge}
-use Rattle.c_meaning_laws.specs.GraphOf.{calls, edges_from}
-use Rattle.c_meaning_laws.specs.Premises.{AreClosed}
-use Rattle.c_meaning_laws.specs.Sorted.{placed, insert, sorted}
-use Rattle.c_meaning_laws.proofs.SortedLemmas.{sorted_from}
-use Rattle.c_meaning_laws.proofs.Functions.{one_call}
+use Rattle.c_meaning.specs.GraphLayout.{Edge, edge}
+use Rattle.c_meaning.specs.GraphOf.{calls, edges_from}
+use Rattle.c_meaning.specs.Premises.{AreClosed}
+use Rattle.c_meaning.specs.Sorted.{placed, insert, sorted}
+use Rattle.c_meaning.proofs.SortedLemmas.{sorted_from}
+use Rattle.c_meaning.proofs.Functions.{one_call}
 use Rattle.flow_graph.specs.Places.{call_of}
-use Rattle.c_meaning_laws.proofs.Members.{is_first, is_later}
+use Rattle.c_meaning.proofs.Members.{is_first, is_later}
 
 module _ {X Y : Type 0} (f : X → Y) (R : X → X → Ordering) (Q : Y → Y → Ordering) where
   placed_map : (o : Ordering) (x y : X) (ys inside : List X) → map f (placed o x y ys inside) ≡ placed o (f x) (f y) (map f ys) (map f inside)

@@ -4,9 +4,9 @@ use Rattle.std.specs.Cmp.{IsTotalOrder}
 use Rattle.std.specs.declared.cmp.Ordering.{Ordering}
 use Rattle.std.specs.declared.cmp.Ordering.TheVariants.{Equal}
 use Rattle.flow_model.specs.Order.{StrictlyRise}
-use Rattle.c_meaning_laws.specs.Sorted.{sorted}
-use Rattle.c_meaning_laws.proofs.SortedLemmas.{sorted_from, sorted_has}
-use Rattle.c_meaning_laws.proofs.Rising.{sorted_rises}
+use Rattle.c_meaning.specs.Sorted.{sorted}
+use Rattle.c_meaning.proofs.SortedLemmas.{sorted_from, sorted_has}
+use Rattle.c_meaning.proofs.Rising.{sorted_rises}
 use Rattle.flow_model.proofs.Rising.{same_members}
 pub use Rattle.flow_model.proofs.Rising.{rises, tied}
 

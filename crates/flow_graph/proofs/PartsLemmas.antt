@@ -3,7 +3,7 @@ use Rattle.std.proofs.Common.{◌≡◌, ℕ, zero, suc, ◌+◌, ◌<◌, min, 
 use Rattle.flow_graph.specs.declared.shape.Shape.{Shape as Tree}
 use Rattle.std.specs.Prelude.{Box}
 use Rattle.flow_graph.specs.declared.shape.Shape.TheVariants.{Seq as SeqTree, Cases as CasesTree}
-use Rattle.c_meaning_laws.specs.GraphLayout.{width, widths, count}
+use Rattle.c_meaning.specs.GraphLayout.{width, widths, count}
 use Rattle.flow_graph.specs.View.{shape_of, parts_of}
 use Rattle.flow_graph.proofs.Rows.{seq_is, cases_is}
 

@@ -10,15 +10,15 @@ use Rattle.c_tree.specs.Tree.{Function, Program}
 use Rattle.c_tree.specs.Functions.{defined}
 use Rattle.c_tree.specs.Program.{IsProgram}
 use Rattle.c_tree.specs.View.{stmt_of, function_of}
-use Rattle.c_meaning_laws.specs.Shape.{Shape}
-use Rattle.c_meaning_laws.specs.CallGraph.{marked, marked_where}
-use Rattle.c_meaning_laws.specs.ShapeOf.{any_call, taken_calls, shapes_of_functions}
-use Rattle.call_graph.proofs.SitesLemmas.{no_site}
+use Rattle.c_meaning.specs.Shape.{Shape}
+use Rattle.c_meaning.specs.CallGraph.{marked, marked_where}
+use Rattle.c_meaning.specs.ShapeOf.{any_call, taken_calls, shapes_of_functions}
+use Rattle.flow_graph.proofs.SitesLemmas.{no_site}
 use Rattle.flow_graph.specs.declared.shape.Shape.{Shape as Tree}
 use Rattle.flow_graph.specs.View.{shape_of, shapes_in}
 use Rattle.flow_graph.specs.Sited.{stmt_at}
 use Rattle.flow_graph.proofs.Told.{defined_told}
-pub use Rattle.call_graph.proofs.BelowOrAt.{below_or_at}
+pub use Rattle.flow_graph.proofs.BelowOrAt.{below_or_at}
 pub use Rattle.flow_graph.proofs.ArgumentLemmas.{nothing}
 
 past_end : (xs : List Bool) (s : ℕ) → length xs ≤ s → slice_index_or xs s false ≡ false

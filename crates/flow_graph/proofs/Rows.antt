@@ -4,7 +4,7 @@ use Rattle.std.specs.Prelude.{Box}
 use mathlib.Core.Former.{Count}
 use Rattle.flow_graph.specs.declared.shape.Shape.{Shape as Tree, Cases', Row_of-Shape, end_of-Shape, more_of-Shape, items-the_row-Shape, items_hidden-the_row-Shape-0}
 use Rattle.flow_graph.specs.declared.shape.Shape.TheVariants.{Seq as SeqTree, Cases as CasesTree}
-use Rattle.c_meaning_laws.specs.Shape.{Seq, Cases, Part}
+use Rattle.c_meaning.specs.Shape.{Seq, Cases, Part}
 use Rattle.flow_graph.specs.View.{shape_of, parts_of_row, parts_of}
 
 parts_row : (n : _) (row : Row_of-Shape n) → parts_of_row row ≡ parts_of (items-the_row-Shape n row)

@@ -4,8 +4,8 @@ use Rattle.std.specs.List.{remove}
 use Rattle.std.proofs.lemmas.Bool.{false≢true}
 use Rattle.flow_graph.specs.declared.shape.Shape.{Shape as Tree}
 use Rattle.flow_graph.specs.View.{shape_of, parts_of}
-use Rattle.c_meaning_laws.specs.Shape.{Shape, Skip, Sys, Exit, Call, Seq, Alt, Loop, Do, Cases, Break, Continue, Return, Parts, End, Part}
-use Rattle.c_meaning_laws.specs.ShapeOf.{before_parts, in_turn}
+use Rattle.c_meaning.specs.Shape.{Shape, Skip, Sys, Exit, Call, Seq, Alt, Loop, Do, Cases, Break, Continue, Return, Parts, End, Part}
+use Rattle.c_meaning.specs.ShapeOf.{before_parts, in_turn}
 use Rattle.flow_graph.specs.Joined.{joined, is_skip}
 
 pub joined_end : (ps : Parts) → joined ps End ≡ ps

@@ -5,11 +5,11 @@ use Rattle.std.specs.Ordering.{nat_cmp, ordering_then}
 use Rattle.std.specs.declared.cmp.Ordering.TheVariants.{Equal}
 use Rattle.std.proofs.lemmas.Cmp.{tied_itself, on_total, then_total}
 use Rattle.std.proofs.lemmas.List.{take_more, map-append}
-use Rattle.c_meaning_laws.specs.Walks.{Silent, System, Site}
+use Rattle.c_meaning.specs.Walks.{Silent, System, Site}
 use Rattle.flow_model.proofs.OrderLemmas.{numbers_tie}
 use Rattle.flow_graph.specs.declared.edge.Edge.{Edge as EdgeTree}
 use Rattle.flow_graph.specs.Edges.{edge_of, edges_in}
-use Rattle.c_meaning_laws.specs.GraphLayout.{Edge, edge}
+use Rattle.c_meaning.specs.GraphLayout.{Edge, edge}
 use Rattle.flow_graph.specs.declared.sites.SiteEdge.{SiteEdge}
 use Rattle.flow_graph.specs.SiteEdges.{site_edges, site_edge_order}
 use Rattle.flow_model.proofs.OrderLemmas.{both_equal}

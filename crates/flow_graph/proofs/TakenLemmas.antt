@@ -5,9 +5,9 @@ use Rattle.std.proofs.lemmas.List.Elements.{filter-append}
 use Rattle.std.proofs.lemmas.List.{take_more, take_all, map-append}
 use Rattle.c_tree.specs.Tree.{Program}
 use Rattle.c_tree.specs.Functions.{defined}
-use Rattle.c_meaning_laws.specs.CallGraph.{is_taken, marked, candidates}
-use Rattle.c_meaning_laws.specs.ShapeOf.{taken_calls, place_of, candidate_places}
-use Rattle.c_meaning_laws.specs.Sorted.{sorted}
+use Rattle.c_meaning.specs.CallGraph.{is_taken, marked, candidates}
+use Rattle.c_meaning.specs.ShapeOf.{taken_calls, place_of, candidate_places}
+use Rattle.c_meaning.specs.Sorted.{sorted}
 use Rattle.std.specs.Ordering.{nat_cmp}
 use Rattle.flow_graph.specs.Places.{place_at}
 use Rattle.flow_graph.proofs.ProgramLemmas.{range_more}

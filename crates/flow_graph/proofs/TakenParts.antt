@@ -7,8 +7,8 @@ use Rattle.c_tree.specs.declared.tree.TInit.{TInit}
 use Rattle.c_tree.specs.declared.tree.TStmt.{TStmt}
 use Rattle.c_tree.specs.declared.tree.TGroup.{TGroup}
 use Rattle.c_tree.specs.View.{expr_of, exprs_of, inits_of, stmt_of, stmts_of, groups_of}
-use Rattle.c_meaning_laws.specs.Shape.{Shape, Parts, End, Part}
-use Rattle.c_meaning_laws.specs.ShapeOf.{before_parts, without_skips, seq}
+use Rattle.c_meaning.specs.Shape.{Shape, Parts, End, Part}
+use Rattle.c_meaning.specs.ShapeOf.{before_parts, without_skips, seq}
 use Rattle.flow_graph.specs.Joined.{joined}
 use Rattle.flow_graph.specs.Sited.{expr_at, exprs_at, inits_at, stmt_at, stmts_at, groups_at}
 use Rattle.flow_graph.proofs.SequenceLemmas.{joined_end, joined_assoc, before_joined, parts_append}

@@ -7,13 +7,13 @@ use Rattle.c_tree.specs.Tree.{Function, Program}
 use Rattle.c_tree.specs.Functions.{defined}
 use Rattle.c_tree.specs.Constants.{pattern_of}
 use Rattle.c_tree.specs.Program.{IsProgram}
-use Rattle.c_meaning_laws.specs.Shape.{Skip, Call, Loop, Do, Cases, Return, Parts, End, Part}
-use Rattle.c_meaning_laws.specs.Mentions.{Callee, Direct, Through, Mention, Calls, mentions, mentions_of_all, mentions_of_maybe, mentions_of_inits, mentions_of_stmt, mentions_of_stmts, mentions_of_groups, mentions_of_function, mentions_of_static, mentions_of_program}
-use Rattle.c_meaning_laws.specs.CallGraph.{is_marked, marked, marked_where}
-use Rattle.c_meaning_laws.specs.ShapeOf.{seq, seq_two, alt, system_call, marked_call, direct_call, has_default, shape, shapes_before, shape_of_maybe, shapes_of_inits, shape_of_stmt, shapes_of_stmts, shapes_of_groups, shape_of_function}
+use Rattle.c_meaning.specs.Shape.{Skip, Call, Loop, Do, Cases, Return, Parts, End, Part}
+use Rattle.c_meaning.specs.Mentions.{Callee, Direct, Through, Mention, Calls, mentions, mentions_of_all, mentions_of_maybe, mentions_of_inits, mentions_of_stmt, mentions_of_stmts, mentions_of_groups, mentions_of_function, mentions_of_static, mentions_of_program}
+use Rattle.c_meaning.specs.CallGraph.{is_marked, marked, marked_where}
+use Rattle.c_meaning.specs.ShapeOf.{seq, seq_two, alt, system_call, marked_call, direct_call, has_default, shape, shapes_before, shape_of_maybe, shapes_of_inits, shape_of_stmt, shapes_of_stmts, shapes_of_groups, shape_of_function}
 use Rattle.flow_graph.specs.Sited.{call_at, direct_at, expr_at, exprs_at, maybe_at, inits_at, stmt_at, stmts_at, groups_at}
-use Rattle.c_meaning_laws.proofs.SitesSaid.{callee_found}
-use Rattle.c_meaning_laws.proofs.Members.{is_first, is_later}
+use Rattle.c_meaning.proofs.SitesSaid.{callee_found}
+use Rattle.c_meaning.proofs.Members.{is_first, is_later}
 
 in_left : {X : Type 0} (xs ys : List X) (z : X) → Contains xs z → Contains (xs ++ ys) z
 in_left [] ys z (k, lt, is) = absurd (omega (arith, lt))

@@ -11,8 +11,8 @@ use Rattle.c_tree.specs.declared.tree.TStmt.TheVariants.{Block, If, For, Switch}
 use Rattle.c_tree.specs.declared.tree.TGroup.{TGroup}
 use Rattle.c_tree.specs.View.{ctype_of, expr_with, expr_of, exprs_of, maybe_of, stmt_of, stmts_of, groups_of}
 use Rattle.c_tree.proofs.Rows.{comma_is, call_is, call_through_is, block_is, for_is, switch_is}
-use Rattle.c_meaning_laws.specs.Shape.{Shape, Skip, Loop, Cases, Parts, End, Part}
-use Rattle.c_meaning_laws.specs.ShapeOf.{before_parts, without_skips, in_turn, seq, seq_two, alt, has_default}
+use Rattle.c_meaning.specs.Shape.{Shape, Skip, Loop, Cases, Parts, End, Part}
+use Rattle.c_meaning.specs.ShapeOf.{before_parts, without_skips, in_turn, seq, seq_two, alt, has_default}
 use Rattle.flow_graph.specs.Joined.{joined}
 use Rattle.c_tree.specs.Tree.{Exprs, no_exprs, more_exprs}
 use Rattle.flow_graph.specs.Sited.{call_at, direct_at, expr_at, exprs_at, maybe_at, stmt_at, stmts_at, groups_at}

@@ -4,8 +4,8 @@ use Rattle.flow_graph.specs.declared.edge.Label.{Label as Tree}
 use Rattle.flow_graph.specs.declared.edge.Label.TheVariants as l
 use Rattle.flow_graph.specs.declared.edge.Edge.{Edge as EdgeTree}
 use Rattle.flow_graph.specs.declared.edge.Places.{Places as PlacesTree}
-use Rattle.c_meaning_laws.specs.Walks.{Label, Silent, System, Site}
-use Rattle.c_meaning_laws.specs.GraphLayout.{Edge, edge, Places}
+use Rattle.c_meaning.specs.Walks.{Label, Silent, System, Site}
+use Rattle.c_meaning.specs.GraphLayout.{Edge, edge, Places}
 
 abbrev pub label_of : Tree → Label
 label_of l.Silent = Silent

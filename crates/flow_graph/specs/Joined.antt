@@ -1,6 +1,6 @@
 -- For private contracts and proofs alone: lists of parts one after another.
 use Rattle.std.specs.Prelude.{Bool, true, false, List, [], ◌∷◌}
-use Rattle.c_meaning_laws.specs.Shape.{Shape, Skip, Parts, End, Part}
+use Rattle.c_meaning.specs.Shape.{Shape, Skip, Parts, End, Part}
 
 -- parts, and others after them
 abbrev pub joined : Parts → Parts → Parts

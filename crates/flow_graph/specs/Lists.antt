@@ -2,9 +2,9 @@
 use Rattle.std.specs.Prelude.{◌≡◌, List}
 use Rattle.flow_graph.specs.declared.lists.Lists.{Lists}
 use Rattle.flow_model.specs.Order.{silent_order, sys_order}
-use Rattle.c_meaning_laws.specs.GraphLayout.{Edge}
-use Rattle.c_meaning_laws.specs.GraphOf.{silent_edges, sys_edges}
-use Rattle.c_meaning_laws.specs.Sorted.{sorted}
+use Rattle.c_meaning.specs.GraphLayout.{Edge}
+use Rattle.c_meaning.specs.GraphOf.{silent_edges, sys_edges}
+use Rattle.c_meaning.specs.Sorted.{sorted}
 
 -- those of these edges, in order and each once
 pub record AreLists (edges : List Edge) (lists : Lists) : Type 0 where

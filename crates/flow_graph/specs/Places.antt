@@ -3,7 +3,7 @@ use Rattle.std.specs.Prelude.{ℕ, ◌+◌, ◌-◌, nat_lt, List, length, filte
 use Rattle.std.specs.Ordering.{nat_cmp}
 use Rattle.flow_graph.specs.declared.sites.SiteEdge.{SiteEdge}
 use Rattle.flow_model.specs.Call.{Call}
-use Rattle.c_meaning_laws.specs.Sorted.{sorted}
+use Rattle.c_meaning.specs.Sorted.{sorted}
 
 -- where the function with this number stands among so many defined ones and the taken system calls
 abbrev pub place_at : ℕ → List ℕ → ℕ → ℕ

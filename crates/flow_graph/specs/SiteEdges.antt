@@ -3,8 +3,8 @@ use Rattle.std.specs.Prelude.{List, [], ◌∷◌}
 use Rattle.std.specs.declared.cmp.Ordering.{Ordering}
 use Rattle.std.specs.Ordering.{nat_cmp, ordering_then}
 use Rattle.flow_graph.specs.declared.sites.SiteEdge.{SiteEdge}
-use Rattle.c_meaning_laws.specs.Walks.{Silent, System, Site}
-use Rattle.c_meaning_laws.specs.GraphLayout.{Edge, edge}
+use Rattle.c_meaning.specs.Walks.{Silent, System, Site}
+use Rattle.c_meaning.specs.GraphLayout.{Edge, edge}
 
 abbrev pub site_edges : List Edge → List SiteEdge
 site_edges [] = []

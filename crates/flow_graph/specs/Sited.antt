@@ -4,8 +4,8 @@ use Rattle.c_tree.specs.Tree.{Expr, constant, function_name, string_place, varia
 use Rattle.c_tree.specs.Tree.{Exprs, no_exprs, more_exprs, Maybe, absent, there, Inits, no_inits, more_inits}
 use Rattle.c_tree.specs.Tree.{Stmt, block, empty, evaluate, declare, if_else, while_loop, do_loop, for_loop, switch_on, break_off, continue_on, return_void, return_value, Stmts, no_stmts, more_stmts, Groups, no_groups, more_groups}
 use Rattle.c_tree.specs.Constants.{pattern_of}
-use Rattle.c_meaning_laws.specs.Shape.{Shape, Skip, Call, Loop, Do, Cases, Break, Continue, Return, Parts, End, Part}
-use Rattle.c_meaning_laws.specs.ShapeOf.{seq, seq_two, alt, system_call, has_default}
+use Rattle.c_meaning.specs.Shape.{Shape, Skip, Call, Loop, Do, Cases, Break, Continue, Return, Parts, End, Part}
+use Rattle.c_meaning.specs.ShapeOf.{seq, seq_two, alt, system_call, has_default}
 
 -- the call at a site, where the site is marked
 abbrev pub call_at : List Bool → ℕ → Shape

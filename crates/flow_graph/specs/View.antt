@@ -2,7 +2,7 @@
 use Rattle.std.specs.Prelude.{List, [], ◌∷◌, map}
 use Rattle.flow_graph.specs.declared.shape.Shape.{Shape as Tree, Row_of-Shape, end_of-Shape, more_of-Shape}
 use Rattle.flow_graph.specs.declared.shape.Shape.{Skip as Skip', Sys as Sys', Exit as Exit', Call as Call', Seq', Alt', Loop', Do', Cases', Break as Break', Continue as Continue', Return as Return'}
-use Rattle.c_meaning_laws.specs.Shape.{Shape, Skip, Sys, Exit, Call, Seq, Alt, Loop, Do, Cases, Break, Continue, Return, Parts, End, Part}
+use Rattle.c_meaning.specs.Shape.{Shape, Skip, Sys, Exit, Call, Seq, Alt, Loop, Do, Cases, Break, Continue, Return, Parts, End, Part}
 
 abbrev mutual
   pub shape_of : Tree → Shape

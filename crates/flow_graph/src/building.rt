@@ -1,17 +1,16 @@
 ghost use Rattle.std.specs.Prelude.{◌≡◌, ◌<◌, ◌≤◌, OnOk, IfOk, IfErr};
 ghost use Rattle.c_tree.specs.View.{program_of};
-ghost use Rattle.c_meaning_laws.specs.ProgramLanguages as programs;
-ghost use Rattle.call_graph.specs.Calls.{AreCallsOf};
+ghost use Rattle.c_meaning.specs.ProgramLanguages as programs;
+ghost use Rattle.flow_graph.specs.Calls.{AreCallsOf};
 ghost use Rattle.flow_model.specs.declared.which.Which.TheVariants.{Callgraph, Stack, Dyck};
 ghost use Rattle.flow_model.specs.Language.{Reads};
 ghost use Rattle.flow_model.specs.Rules.{IsValid};
-ghost use Rattle.c_meaning_laws.specs.Equal.{AreEqual};
-ghost use Rattle.c_meaning_laws.specs.GraphOfProgram.{graph_of_program};
+ghost use Rattle.c_meaning.specs.Equal.{AreEqual};
+ghost use Rattle.c_meaning.specs.GraphOfProgram.{graph_of_program};
 
 use crate::programs::shapes_of_functions;
-use crate::{BuildError, model_of_shapes};
+use crate::{BuildError, Calls, model_of_shapes};
 use c_tree::Program;
-use call_graph::Calls;
 use dm_base::OutOfMemory;
 use flow_model::Model;
 use std::alloc::Global;

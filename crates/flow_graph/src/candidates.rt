@@ -1,15 +1,15 @@
 ghost use Rattle.std.specs.Prelude.{◌≡◌, ◌++◌, map, OnOk, IfOk};
 ghost use Rattle.std.specs.Ordering.{nat_cmp};
 ghost use Rattle.c_tree.specs.View.{program_of};
-ghost use Rattle.c_meaning_laws.specs.ShapeOf.{taken_calls, candidate_places};
-ghost use Rattle.call_graph.specs.Calls.{AreCallsOf};
-ghost use Rattle.c_meaning_laws.specs.Sorted.{sorted};
+ghost use Rattle.c_meaning.specs.ShapeOf.{taken_calls, candidate_places};
+ghost use Rattle.flow_graph.specs.Calls.{AreCallsOf};
+ghost use Rattle.c_meaning.specs.Sorted.{sorted};
 ghost use Rattle.flow_graph.specs.Places.{call_of};
 
+use crate::Calls;
 use crate::places::places_of;
 use crate::sites::{SiteEdge, order_numbers};
 use c_tree::Program;
-use call_graph::Calls;
 use dm_base::OutOfMemory;
 use flow_model::{CallEdge, ModelBuilder};
 use std::alloc::Global;

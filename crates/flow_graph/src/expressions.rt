@@ -1,7 +1,7 @@
 ghost use Rattle.std.specs.Prelude.{◌≡◌, false, slice_index_or, IfOk};
 ghost use Rattle.c_tree.specs.View.{expr_of, exprs_of, maybe_of, inits_of};
-ghost use Rattle.c_meaning_laws.specs.Shape.{Skip, End};
-ghost use Rattle.c_meaning_laws.specs.ShapeOf.{system_call, without_skips, seq, seq_two, alt as alt_of};
+ghost use Rattle.c_meaning.specs.Shape.{Skip, End};
+ghost use Rattle.c_meaning.specs.ShapeOf.{system_call, without_skips, seq, seq_two, alt as alt_of};
 ghost use Rattle.flow_graph.specs.View.{shape_of, parts_of};
 ghost use Rattle.flow_graph.specs.Sited.{call_at, direct_at, expr_at, exprs_at, maybe_at, inits_at};
 

@@ -1,7 +1,7 @@
 ghost use Rattle.std.specs.Prelude.{◌≡◌, ◌<◌, ◌^◌, min, IfOk};
 ghost use Rattle.flow_graph.specs.View.{shapes_in};
 ghost use Rattle.flow_graph.specs.Edges.{edges_in};
-ghost use Rattle.c_meaning_laws.specs.GraphOf.{nodes_from, edges_from};
+ghost use Rattle.c_meaning.specs.GraphOf.{nodes_from, edges_from};
 
 use crate::edge::{Edge, Places};
 use crate::laying::lay;

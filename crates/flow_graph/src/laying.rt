@@ -1,9 +1,9 @@
 ghost use Rattle.std.specs.Prelude.{◌≡◌, ◌+◌, ◌<◌, ◌^◌, ◌∷◌, ◌++◌, [], OnOk, IfOk};
-ghost use Rattle.c_meaning_laws.specs.Shape.{exit_call, Cases};
-ghost use Rattle.c_meaning_laws.specs.Walks.{Silent, System};
+ghost use Rattle.c_meaning.specs.Shape.{exit_call, Cases};
+ghost use Rattle.c_meaning.specs.Walks.{Silent, System};
 ghost use Rattle.flow_graph.specs.View.{shape_of, parts_of};
 ghost use Rattle.flow_graph.specs.Edges.{edge_of, edges_in, places_of};
-ghost use Rattle.c_meaning_laws.specs.GraphLayout.{edge, width, widths, count, edges, edges_of_parts, to_each, past_all};
+ghost use Rattle.c_meaning.specs.GraphLayout.{edge, width, widths, count, edges, edges_of_parts, to_each, past_all};
 
 use crate::Shape;
 use crate::edge::{Edge, Label, Places};

@@ -3,8 +3,8 @@ ghost use Rattle.flow_graph.specs.View.{shapes_in};
 ghost use Rattle.flow_graph.specs.Edges.{edge_of, edges_in};
 ghost use Rattle.flow_graph.specs.Lists.{AreLists};
 ghost use Rattle.flow_model.specs.Order.{silent_order, sys_order, StrictlyRise};
-ghost use Rattle.c_meaning_laws.specs.GraphOf.{edges_from, nodes_from, silent_edges, sys_edges};
-ghost use Rattle.c_meaning_laws.specs.Sorted.{sorted};
+ghost use Rattle.c_meaning.specs.GraphOf.{edges_from, nodes_from, silent_edges, sys_edges};
+ghost use Rattle.c_meaning.specs.Sorted.{sorted};
 
 use crate::edge::{Edge, Label};
 use crate::functions::edges_of;

@@ -1,9 +1,9 @@
 ghost use Rattle.std.specs.Prelude.{◌≡◌, ◌+◌, ◌<◌, ◌^◌, ◌++◌, ◌∷◌, [], length, slice_index_or, OnOk, IfOk};
 ghost use Rattle.c_tree.specs.View.{program_of};
-ghost use Rattle.c_meaning_laws.specs.ShapeOf.{taken_calls, names_of_functions};
+ghost use Rattle.c_meaning.specs.ShapeOf.{taken_calls, names_of_functions};
 ghost use Rattle.flow_graph.specs.View.{shape_of, shapes_in};
-ghost use Rattle.c_meaning_laws.specs.GraphOf.{functions_from, nodes_from};
-ghost use Rattle.c_meaning_laws.specs.GraphLayout.{width};
+ghost use Rattle.c_meaning.specs.GraphOf.{functions_from, nodes_from};
+ghost use Rattle.c_meaning.specs.GraphLayout.{width};
 
 use crate::shape::Shape;
 use crate::width::width_of;

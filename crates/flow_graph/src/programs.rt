@@ -2,17 +2,17 @@ ghost use Rattle.std.specs.Prelude.{◌≡◌, ◌<◌, ◌++◌, ◌∷◌, [],
 ghost use Rattle.c_tree.specs.Functions.{defined};
 ghost use Rattle.c_tree.specs.Tree.{Function};
 ghost use Rattle.c_tree.specs.View.{program_of};
-ghost use Rattle.c_meaning_laws.specs.ShapeOf.{shapes_of_functions, any_call, taken_calls};
-ghost use Rattle.call_graph.specs.Calls.{AreCallsOf};
+ghost use Rattle.c_meaning.specs.ShapeOf.{shapes_of_functions, any_call, taken_calls};
+ghost use Rattle.flow_graph.specs.Calls.{AreCallsOf};
 ghost use Rattle.flow_graph.specs.View.{shape_of, shapes_in};
 ghost use Rattle.flow_graph.specs.Sited.{stmt_at};
 
+use crate::Calls;
 use crate::expressions::{Reading, system_call};
 use crate::marks::marks_of;
 use crate::sequence::push;
 use crate::shape::Shape;
 use c_tree::Program;
-use call_graph::Calls;
 use dm_base::{OutOfMemory, Pattern, SysName};
 use std::alloc::Global;
 use sys_table::argument_kinds;

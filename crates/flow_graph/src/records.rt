@@ -1,14 +1,15 @@
 ghost use Rattle.std.specs.Prelude.{◌≡◌, ◌<◌, ◌^◌, ◌++◌, [], map, OnOk, IfOk};
 ghost use Rattle.c_tree.specs.View.{program_of};
-ghost use Rattle.c_meaning_laws.specs.ShapeOf.{shapes_of_functions, names_of_functions, taken_calls, candidate_places};
-ghost use Rattle.call_graph.specs.Calls.{AreCallsOf};
+ghost use Rattle.c_meaning.specs.ShapeOf.{shapes_of_functions, names_of_functions, taken_calls, candidate_places};
+ghost use Rattle.flow_graph.specs.Calls.{AreCallsOf};
 ghost use Rattle.flow_graph.specs.View.{shapes_in};
 ghost use Rattle.flow_model.specs.Order.{silent_order, sys_order};
-ghost use Rattle.c_meaning_laws.specs.GraphOf.{functions_from, edges_from, nodes_from, silent_edges, sys_edges};
-ghost use Rattle.c_meaning_laws.specs.Sorted.{sorted};
+ghost use Rattle.c_meaning.specs.GraphOf.{functions_from, edges_from, nodes_from, silent_edges, sys_edges};
+ghost use Rattle.c_meaning.specs.Sorted.{sorted};
 ghost use Rattle.flow_graph.specs.Places.{call_of};
 ghost use Rattle.flow_graph.specs.SiteEdges.{site_edges, site_edge_order};
 
+use crate::Calls;
 use crate::candidates::add_calls;
 use crate::lists::{Lists, lists_of};
 use crate::model_functions::add_functions;
@@ -16,7 +17,6 @@ use crate::shape::Shape;
 use crate::sites::{SiteEdge, sites_of};
 use crate::taken::taken_of;
 use c_tree::Program;
-use call_graph::Calls;
 use dm_base::OutOfMemory;
 use flow_model::{ModelBuilder, SilentEdge, SysEdge};
 use std::alloc::Global;

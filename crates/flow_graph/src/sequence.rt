@@ -1,6 +1,6 @@
 ghost use Rattle.std.specs.Prelude.{◌≡◌, ◌∷◌, ◌++◌, [], true, false, OnOk, IfOk};
-ghost use Rattle.c_meaning_laws.specs.Shape.{Skip, End, Alt, Loop, Do};
-ghost use Rattle.c_meaning_laws.specs.ShapeOf.{before_parts, in_turn, alt as alt_of, seq_two};
+ghost use Rattle.c_meaning.specs.Shape.{Skip, End, Alt, Loop, Do};
+ghost use Rattle.c_meaning.specs.ShapeOf.{before_parts, in_turn, alt as alt_of, seq_two};
 ghost use Rattle.flow_graph.specs.View.{shape_of, parts_of};
 ghost use Rattle.flow_graph.specs.Joined.{joined, is_skip};
 

@@ -2,8 +2,8 @@ ghost use Rattle.std.specs.Prelude.{◌≡◌, ◌<◌, ◌^◌, ◌∷◌, ◌+
 ghost use Rattle.std.specs.Ordering.{nat_cmp};
 ghost use Rattle.flow_graph.specs.View.{shapes_in};
 ghost use Rattle.flow_graph.specs.Edges.{edge_of, edges_in};
-ghost use Rattle.c_meaning_laws.specs.GraphOf.{edges_from, nodes_from};
-ghost use Rattle.c_meaning_laws.specs.Sorted.{sorted};
+ghost use Rattle.c_meaning.specs.GraphOf.{edges_from, nodes_from};
+ghost use Rattle.c_meaning.specs.Sorted.{sorted};
 ghost use Rattle.flow_graph.specs.SiteEdges.{site_edges, site_edge_order};
 
 use crate::edge::{Edge, Label};

@@ -1,7 +1,7 @@
 ghost use Rattle.std.specs.Prelude.{◌≡◌, IfOk};
 ghost use Rattle.c_tree.specs.View.{expr_of, maybe_of, stmt_of, stmts_of, groups_of};
-ghost use Rattle.c_meaning_laws.specs.Shape.{Loop, Cases};
-ghost use Rattle.c_meaning_laws.specs.ShapeOf.{has_default, has_default_label, seq, seq_two, alt as alt_of};
+ghost use Rattle.c_meaning.specs.Shape.{Loop, Cases};
+ghost use Rattle.c_meaning.specs.ShapeOf.{has_default, has_default_label, seq, seq_two, alt as alt_of};
 ghost use Rattle.flow_graph.specs.View.{shape_of, parts_of};
 ghost use Rattle.flow_graph.specs.Labels.{is_default};
 ghost use Rattle.flow_graph.specs.Sited.{expr_at, maybe_at, stmt_at, stmts_at, groups_at};

@@ -1,10 +1,10 @@
 ghost use Rattle.std.specs.Prelude.{◌≡◌, ◌++◌, ◌∷◌, [], OnOk, IfOk, if◌then◌else◌};
 ghost use Rattle.c_tree.specs.View.{program_of};
-ghost use Rattle.c_meaning_laws.specs.ShapeOf.{taken_calls};
-ghost use Rattle.call_graph.specs.Calls.{AreCallsOf};
+ghost use Rattle.c_meaning.specs.ShapeOf.{taken_calls};
+ghost use Rattle.flow_graph.specs.Calls.{AreCallsOf};
 
+use crate::Calls;
 use c_tree::Program;
-use call_graph::Calls;
 use dm_base::OutOfMemory;
 use std::alloc::Global;
 

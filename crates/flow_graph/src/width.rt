@@ -1,6 +1,6 @@
 ghost use Rattle.std.specs.Prelude.{◌≡◌, ◌+◌, ◌≤◌, ℕ, min};
 ghost use Rattle.flow_graph.specs.View.{shape_of, parts_of};
-ghost use Rattle.c_meaning_laws.specs.GraphLayout.{width, widths, count};
+ghost use Rattle.c_meaning.specs.GraphLayout.{width, widths, count};
 
 use crate::Shape;
 

@@ -14,7 +14,6 @@ use std::alloc::Global;
 /// functions, and in increasing order the silent edges, the system-call edges and the call edges.
 /// What the accessors give is found in a time that does not grow with the model, but for `call` and
 /// `function_that_ends_at`, which take a binary search. None takes memory.
-#[derive(Drop)]
 pub struct Model {
     node_count: u32,
     start_function: u32,
@@ -28,6 +27,25 @@ pub struct Model {
     call_starts: Vec<usize>,
     return_sites: Vec<u32>,
     return_starts: Vec<usize>,
+}
+
+impl Drop for Model {
+    fn drop(self) {
+        let Self {
+            node_count: _node_count,
+            start_function: _start_function,
+            functions: _functions,
+            silent: _silent,
+            silent_starts: _silent_starts,
+            sys: _sys,
+            sys_starts: _sys_starts,
+            calls: _calls,
+            call_sites: _call_sites,
+            call_starts: _call_starts,
+            return_sites: _return_sites,
+            return_starts: _return_starts,
+        } = self;
+    }
 }
 
 impl std::marker::Model for Model {

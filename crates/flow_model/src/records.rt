@@ -8,11 +8,20 @@ use dm_base::{Bytes, OutOfMemory, Pattern, SysName};
 use std::alloc::Global;
 
 /// A function of a model: its name, the node at which it begins and the one at which it ends.
-#[derive(Drop)]
 pub struct ModelFunction {
     pub name: Bytes,
     pub entry: u32,
     pub exit: u32,
+}
+
+impl Drop for ModelFunction {
+    fn drop(self) {
+        let Self {
+            name: _name,
+            entry: _entry,
+            exit: _exit,
+        } = self;
+    }
 }
 
 impl ModelFunction {
@@ -47,12 +56,22 @@ pub struct SysEdge {
 
 /// A call at a site, seen as its two nodes, its site and the list of the functions that it may
 /// enter, each by its place in the model.
-#[derive(Drop)]
 pub struct CallEdge {
     begins: u32,
     at_site: u32,
     ends: u32,
     functions: Vec<u32>,
+}
+
+impl Drop for CallEdge {
+    fn drop(self) {
+        let Self {
+            begins: _begins,
+            at_site: _at_site,
+            ends: _ends,
+            functions: _functions,
+        } = self;
+    }
 }
 
 impl std::marker::Model for CallEdge {

@@ -10,10 +10,18 @@ use std::alloc::Global;
 /// The working space of the monitors of one model, seen as the number of the model's nodes and the
 /// list of different nodes that were added since it was cleared, the oldest first. It has room for
 /// all nodes, so only `new` takes memory.
-#[derive(Drop)]
 pub struct Scratch {
     members: NodeSet,
     found: Vec<u32>,
+}
+
+impl Drop for Scratch {
+    fn drop(self) {
+        let Self {
+            members: _members,
+            found: _found,
+        } = self;
+    }
 }
 
 impl std::marker::Model for Scratch {

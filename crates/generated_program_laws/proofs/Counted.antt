@@ -4,8 +4,8 @@ use Rattle.std.proofs.lemmas.Bool.{le-ltb}
 use Rattle.c_tree.specs.Tree.{Function, Program}
 use Rattle.c_tree.specs.Functions.{defined}
 use Rattle.c_tree.specs.Sites.{sites_of_function}
-use Rattle.c_meaning_laws.specs.Mentions.{Direct}
-use Rattle.c_meaning_laws.specs.CallGraph.{reaches, is_marked, marked_where, marked}
+use Rattle.c_meaning.specs.Mentions.{Direct}
+use Rattle.c_meaning.specs.CallGraph.{reaches, is_marked, marked_where, marked}
 use Rattle.generated_program.specs.Generator.{drawn}
 use Rattle.generated_program.specs.Typed.{getpid_number, getppid_number, system_number_by, call_site, system_site, typed_main, typed_behind, generated_program}
 use Rattle.generated_program_laws.specs.Bounds.{HasNumbers}

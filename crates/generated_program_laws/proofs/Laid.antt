@@ -5,13 +5,13 @@ use Rattle.std.proofs.lemmas.Bool.{le-ltb}
 use Rattle.c_tree.specs.Tree.{no_exprs, Function, Program}
 use Rattle.c_tree.specs.Functions.{defined}
 use Rattle.c_tree.specs.Constants.{pattern_of}
-use Rattle.c_meaning_laws.specs.Shape.{Shape, Skip, Sys, Call, Seq, Loop, Return, End, Part}
-use Rattle.c_meaning_laws.specs.Mentions.{Direct, mentions_of_program}
-use Rattle.c_meaning_laws.specs.CallGraph.{callee_at, called_where, marked}
-use Rattle.c_meaning_laws.specs.ShapeOf.{seq, seq_two, system_call, marked_call, taken_calls, any_call, shape_of_stmt, shape_of_function, shapes_of_functions, place_of, candidate_places, shapes_of}
-use Rattle.c_meaning_laws.specs.GraphOf.{nodes_from}
-use Rattle.c_meaning_laws.specs.GraphOfProgram.{graph_of_program}
-use Rattle.c_meaning_laws.specs.CallDepth.{CallsAreBelow, CallsDescend}
+use Rattle.c_meaning.specs.Shape.{Shape, Skip, Sys, Call, Seq, Loop, Return, End, Part}
+use Rattle.c_meaning.specs.Mentions.{Direct, mentions_of_program}
+use Rattle.c_meaning.specs.CallGraph.{callee_at, called_where, marked}
+use Rattle.c_meaning.specs.ShapeOf.{seq, seq_two, system_call, marked_call, taken_calls, any_call, shape_of_stmt, shape_of_function, shapes_of_functions, place_of, candidate_places, shapes_of}
+use Rattle.c_meaning.specs.GraphOf.{nodes_from}
+use Rattle.c_meaning.specs.GraphOfProgram.{graph_of_program}
+use Rattle.c_meaning.specs.CallDepth.{CallsAreBelow, CallsDescend}
 use Rattle.generated_program.specs.Generator.{drawn}
 use Rattle.generated_program.specs.Typed.{getpid_number, getppid_number, system_number_by, typed_call, typed_first, call_site, system_site, typed_later, typed_main, typed_behind, generated_program}
 use Rattle.generated_program_laws.specs.Bounds.{number_of}

@@ -5,10 +5,10 @@ use Rattle.std.proofs.lemmas.Bool.{false≢true, lt-ltb, eqb-true, eq-eqb, ne_eq
 use Rattle.std.proofs.lemmas.Nat.{mod_below}
 use Rattle.c_tree.specs.Tree.{Function, Program}
 use Rattle.c_tree.specs.Functions.{defined}
-use Rattle.c_meaning_laws.specs.Mentions.{Callee, Direct, Mention, Calls, mentions_of_function, mentions_of_program}
-use Rattle.c_meaning_laws.specs.CallGraph.{is_in, has_one, names, is_taken, functions_of, enters, said_by, reaching, reaches, is_marked, callee_at}
-use Rattle.c_meaning_laws.specs.ShapeOf.{taken_calls}
-use Rattle.c_meaning_laws.proofs.Rounds.{enough}
+use Rattle.c_meaning.specs.Mentions.{Callee, Direct, Mention, Calls, mentions_of_function, mentions_of_program}
+use Rattle.c_meaning.specs.CallGraph.{is_in, has_one, names, is_taken, functions_of, enters, said_by, reaching, reaches, is_marked, callee_at}
+use Rattle.c_meaning.specs.ShapeOf.{taken_calls}
+use Rattle.c_meaning.proofs.Rounds.{enough}
 use Rattle.generated_program.specs.Generator.{drawn, called_by}
 use Rattle.generated_program.specs.Typed.{getpid_number, getppid_number, system_number_by, typed_first, call_site, system_site, typed_later, typed_main, typed_behind, generated_program}
 

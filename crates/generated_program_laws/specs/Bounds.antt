@@ -5,11 +5,11 @@ use Rattle.dm_base.specs.Trace.{depth}
 use Rattle.c_tree.specs.Tree.{Program}
 use Rattle.c_tree.specs.Functions.{defined}
 use Rattle.c_tree.specs.Sites.{sites_of_program}
-use Rattle.c_meaning_laws.specs.CallGraph.{marked}
-use Rattle.c_meaning_laws.specs.ProgramLanguages.{Dyck}
-use Rattle.c_meaning_laws.specs.ShapeOf.{shapes_of}
-use Rattle.c_meaning_laws.specs.GraphOfProgram.{graph_of_program}
-use Rattle.c_meaning_laws.specs.CallDepth.{CallsDescend}
+use Rattle.c_meaning.specs.CallGraph.{marked}
+use Rattle.c_meaning.specs.ProgramLanguages.{Dyck}
+use Rattle.c_meaning.specs.ShapeOf.{shapes_of}
+use Rattle.c_meaning.specs.GraphOfProgram.{graph_of_program}
+use Rattle.c_meaning.specs.CallDepth.{CallsDescend}
 use Rattle.generated_program.specs.Typed.{generated_program}
 
 -- the sites round whose calls null calls stand

@@ -1,6 +1,6 @@
 ghost use Rattle.generated_program_laws.specs.Bounds.{GeneratedCallsAreFew, GeneratedCallsDescend, GeneratedProgramsAreSmall};
 
-use c_meaning_laws::open_calls_are_bounded;
+use c_meaning::open_calls_are_bounded;
 
 /// The law on the numbers of the generated program with the functions f0 to f`last`: it defines main beside them, has two call expressions for
 /// each of them, of which one is marked, and its graph has 4 nodes for each number up to `last` and 9 more, so at most 200,000 where `last` is

@@ -1,5 +1,5 @@
-//! The text of the generated program is accepted by the rules of the C profile, as the program in closed form. It has no code but its law.
-//! How large the model of the generated program is, and how many of its calls may be open at once. It has no code but its laws.
+//! Laws on the generated program: its text is accepted by the rules of the C profile, as the program in closed form; how large its model
+//! is, and how many of its calls may be open at once. It has no code but these.
 #![tactic(auto)]
 
 mod bounds_laws;

@@ -10,8 +10,8 @@ use Rattle.flow_model.specs.Graph.{Graph}
 use Rattle.flow_model.specs.Language.{StackRun, Reads}
 use Rattle.flow_model.specs.Verdict.{IsKept, IsVerdict}
 use Rattle.c_tree.specs.Tree.{Program}
-use Rattle.c_meaning_laws.specs.Equal.{AreEqual}
-use Rattle.c_meaning_laws.specs.GraphOfProgram.{graph_of_program}
+use Rattle.c_meaning.specs.Equal.{AreEqual}
+use Rattle.c_meaning.specs.GraphOfProgram.{graph_of_program}
 use Rattle.headline.specs.AcceptedRuns.{HasTheWords}
 use Rattle.headline.specs.Headline.{AreNested, IsWithinBound, VerdictIsMembership, Words}
 use Rattle.headline.proofs.Fronts.{kept_whole, accepted_where_kept, word_not_rejected, bound_where_deep}

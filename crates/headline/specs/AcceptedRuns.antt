@@ -6,11 +6,11 @@ use Rattle.sys_table.specs.declared.sys_result.SysResult.{SysResult}
 use Rattle.flow_model.specs.declared.which.Which.TheVariants.{Callgraph, Stack, Dyck}
 use Rattle.flow_model.specs.Language.{Reads}
 use Rattle.c_tree.specs.Tree.{Program}
-use Rattle.c_meaning_laws.specs.ProgramLanguages as program
+use Rattle.c_meaning.specs.ProgramLanguages as program
 use Rattle.c_rules.specs.Accepted.{IsAcceptedAs}
 use Rattle.c_meaning.specs.Runs.{run}
-use Rattle.c_meaning_laws.specs.Equal.{AreEqual}
-use Rattle.c_meaning_laws.specs.GraphOfProgram.{graph_of_program}
+use Rattle.c_meaning.specs.Equal.{AreEqual}
+use Rattle.c_meaning.specs.GraphOfProgram.{graph_of_program}
 use Rattle.null_calls_laws.specs.MarkedRuns.{marked_run}
 use Rattle.null_calls_laws.specs.NoFalseAlarm.{RunsAreWords, MarkedRunsAreWords}
 use Rattle.null_calls_laws.specs.Monitors.{IsAcceptedByBoth, IsAcceptedByAll}

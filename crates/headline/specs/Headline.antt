@@ -10,11 +10,11 @@ use Rattle.flow_model.specs.declared.which.Which.TheVariants as which
 use Rattle.flow_model.specs.Language.{Reads}
 use Rattle.flow_model.specs.Verdict.{IsVerdict}
 use Rattle.c_tree.specs.Tree.{Program}
-use Rattle.c_meaning_laws.specs.ProgramLanguages.{Dyck, Stack, Callgraph}
+use Rattle.c_meaning.specs.ProgramLanguages.{Dyck, Stack, Callgraph}
 use Rattle.c_rules.specs.Accepted.{IsAcceptedAs}
 use Rattle.c_meaning.specs.Runs.{Run, run}
-use Rattle.c_meaning_laws.specs.Equal.{AreEqual}
-use Rattle.c_meaning_laws.specs.GraphOfProgram.{graph_of_program}
+use Rattle.c_meaning.specs.Equal.{AreEqual}
+use Rattle.c_meaning.specs.GraphOfProgram.{graph_of_program}
 use Rattle.null_calls_laws.specs.MarkedRuns.{marked_run}
 use Rattle.null_calls_laws.specs.InstrumentedTexts.{instrumented_text}
 

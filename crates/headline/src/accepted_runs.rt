@@ -1,6 +1,6 @@
 ghost use Rattle.headline.specs.AcceptedRuns.{TextsRaiseNoAlarm};
 
-use c_meaning_laws::program_graph_has_the_words;
+use c_meaning::program_graph_has_the_words;
 use c_rules_laws::{a_plain_text_makes_no_null_call, accepted_texts_are_programs};
 use null_calls_laws::{marked_runs_are_runs, monitors_accept_runs, runs_raise_no_alarm};
 

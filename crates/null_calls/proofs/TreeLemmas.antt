@@ -20,7 +20,7 @@ use Rattle.c_syntax.specs.WritesUnit.{inits_of, block_items_of, stmts_of, groups
 use Rattle.c_rules.specs.Initialisers.{calls_of_init, calls_of_maybe_init}
 use Rattle.c_rules.specs.Functions.{items_of_body}
 use Rattle.c_rules.specs.Variables.{calls_of_decl, calls_of_stmt, calls_of_block, calls_of_stmts, calls_of_groups}
-use Rattle.null_calls_expressions.proofs.Rows.{list_is, block_is, if_is, switch_is, group_is}
+use Rattle.c_syntax.proofs.NodeRows.{list_is, block_is, if_is, switch_is, group_is}
 use Rattle.null_calls_expressions.specs.MarkedCalls.{Sites}
 use Rattle.null_calls_expressions.specs.InstrumentedStatements as marks
 use Rattle.null_calls.specs.Parts.{part_of, item_of, group_of}

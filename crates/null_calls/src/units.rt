@@ -7,8 +7,8 @@ ghost use Rattle.c_syntax.specs.UnitView.{stmt_of, item_at, items_of};
 ghost use Rattle.c_syntax.specs.WritesUnit.{block_items_of};
 ghost use Rattle.c_rules.specs.Functions.{items_of_body};
 ghost use Rattle.c_rules.specs.Variables.{calls_of_block};
-ghost use Rattle.null_calls_expressions.specs.Seen.{seen};
-ghost use Rattle.call_graph.specs.Calls.{AreCallsOf};
+ghost use Rattle.c_syntax.specs.SeenNames.{seen};
+ghost use Rattle.flow_graph.specs.Calls.{AreCallsOf};
 ghost use Rattle.null_calls_expressions.specs.Sited.{sited};
 ghost use Rattle.null_calls_expressions.specs.Instrumented as marks;
 ghost use Rattle.null_calls_expressions.specs.InstrumentedStatements as parts;
@@ -18,12 +18,12 @@ ghost use Rattle.null_calls.specs.Parts.{items_where};
 
 use crate::statement_nodes::block_node;
 use crate::statements::{block_items, statement};
-use c_check_units::tag_names;
+use c_check_counts::tag_names;
 use c_syntax::{BlockItem, Ident, Item, ItemKind, Spec, Stmt, StmtKind};
 use c_tree::Program;
-use call_graph::Calls;
 use dm_base::{Bytes, OutOfMemory};
 use dm_counts::Count;
+use flow_graph::Calls;
 use null_calls_expressions::{
     MarkedSites, Temporary, copy_decl, copy_declarator, copy_enumerators, copy_ident, copy_members,
     copy_spec, copy_tag, declared, declared_alone, declared_node, function_node, param_node,

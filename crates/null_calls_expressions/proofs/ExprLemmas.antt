@@ -9,7 +9,7 @@ use Rattle.c_syntax.specs.Tree.{Expr, comma, call, Exprs, more_exprs}
 use Rattle.c_syntax.specs.View.{expr_at, expr_of}
 use Rattle.c_syntax.specs.Writes.{exprs_of}
 use Rattle.c_rules.specs.Counts.{calls, calls_of_all}
-use Rattle.c_check_counts.proofs.Rows.{comma_is, call_is}
+use Rattle.c_syntax.proofs.NodeRows.{comma_is, call_is}
 use Rattle.null_calls_temporaries.specs.MarkedCalls.{Sites}
 use Rattle.null_calls_temporaries.specs.Temporaries.{Temporary, temporaries_where}
 use Rattle.null_calls_temporaries.specs.InstrumentedExpressions.{call_where, expr, kept, arguments, members, kept_of_arguments, kept_of_members}

@@ -36,13 +36,13 @@ module _ (at site : ℕ) (args : List ExprTree) where
   none_passed passed items none is = ap (λ ps. exprs_onto ps (kept_arguments at site (length ps) (exprs_of items))) none ∙ ap (λ xs. kept_arguments at site 0 (exprs_of xs)) is
 
 -- an argument is kept
-module _ (at site : ℕ) (x k p : ExprTree) (items xs : List ExprTree) (passed more : List ExprTree) (is : items ≡ x ∷ xs) (grown : more ≡ passed ++ p ∷ []) where
+module _ (at site : ℕ) (x p : ExprTree) (items xs : List ExprTree) (passed more : List ExprTree) (is : items ≡ x ∷ xs) (grown : more ≡ passed ++ p ∷ []) where
   pub keeps_more : (old new : List ExprTree) (whole : Exprs → Exprs) → ((rest : Exprs) → exprs_onto old (keep_arguments at site (length passed) (exprs_of items) rest) ≡ whole rest)
-      → expr_of k ≡ kept_in at (argument_name site (length passed)) (expr_of x) → ((rest : Exprs) → exprs_onto new rest ≡ exprs_onto old (more_exprs (expr_of k) rest))
+      → ((rest : Exprs) → exprs_onto new rest ≡ exprs_onto old (more_exprs (kept_in at (argument_name site (length passed)) (expr_of x)) rest))
       → (rest : Exprs) → exprs_onto new (keep_arguments at site (length more) (exprs_of xs) rest) ≡ whole rest
-  keeps_more old new whole before kept step rest =
+  keeps_more old new whole before step rest =
       ap (λ n. exprs_onto new (keep_arguments at site n (exprs_of xs) rest)) (ap length grown ∙ longer passed p)
-      ∙ (onto_one old new k _ kept step (keep_arguments at site (suc (length passed)) (exprs_of xs) rest)
+      ∙ (step (keep_arguments at site (suc (length passed)) (exprs_of xs) rest)
       ∙ (ap (λ ys. exprs_onto old (keep_arguments at site (length passed) (exprs_of ys) rest)) (sym is) ∙ before rest))
 
   -- its temporary is passed
@@ -65,17 +65,16 @@ pub all_passed : (at site n : ℕ) (items passed : List ExprTree) (whole : Exprs
 all_passed at site n items passed whole none is = sym (onto_none passed) ∙ (sym (ap (λ xs. exprs_onto passed (kept_arguments at site n (exprs_of xs))) (empty items none)) ∙ is)
 
 -- the call and what follows it
-pub post_unwanted : (at site : ℕ) (x y : ExprTree) (old mid new : List ExprTree) → ((rest : Exprs) → exprs_onto mid rest ≡ exprs_onto old (more_exprs (expr_of x) rest)) → expr_of y ≡ null_call at post_name site
-    → ((rest : Exprs) → exprs_onto new rest ≡ exprs_onto mid (more_exprs (expr_of y) rest)) → exprs_of new ≡ exprs_onto old (call_and_post at site false (expr_of x))
-post_unwanted at site x y old mid new first is second =
-    sym (onto_none new) ∙ (onto_one mid new y _ is second no_exprs ∙ first (more_exprs (null_call at post_name site) no_exprs))
+pub post_unwanted : (at site : ℕ) (e : Expr) (old mid new : List ExprTree) → ((rest : Exprs) → exprs_onto mid rest ≡ exprs_onto old (more_exprs e rest)) → ((rest : Exprs) → exprs_onto new rest ≡ exprs_onto mid (more_exprs (null_call at post_name site) rest))
+    → exprs_of new ≡ exprs_onto old (call_and_post at site false e)
+post_unwanted at site e old mid new first second = sym (onto_none new) ∙ (second no_exprs ∙ first (more_exprs (null_call at post_name site) no_exprs))
 
-pub post_wanted : (at site : ℕ) (e : Expr) (x y z : ExprTree) (old one two new : List ExprTree) → expr_of x ≡ kept_in at (result_name site) e → ((rest : Exprs) → exprs_onto one rest ≡ exprs_onto old (more_exprs (expr_of x) rest))
-    → expr_of y ≡ null_call at post_name site → ((rest : Exprs) → exprs_onto two rest ≡ exprs_onto one (more_exprs (expr_of y) rest))
+pub post_wanted : (at site : ℕ) (e : Expr) (z : ExprTree) (old one two new : List ExprTree) → ((rest : Exprs) → exprs_onto one rest ≡ exprs_onto old (more_exprs (kept_in at (result_name site) e) rest))
+    → ((rest : Exprs) → exprs_onto two rest ≡ exprs_onto one (more_exprs (null_call at post_name site) rest))
     → expr_of z ≡ a_name at (result_name site) → ((rest : Exprs) → exprs_onto new rest ≡ exprs_onto two (more_exprs (expr_of z) rest)) → exprs_of new ≡ exprs_onto old (call_and_post at site true e)
-post_wanted at site e x y z old one two new a p b q c r =
-    sym (onto_none new) ∙ (onto_one two new z _ c r no_exprs ∙ (onto_one one two y _ b q (more_exprs (a_name at (result_name site)) no_exprs)
-    ∙ onto_one old one x _ a p (more_exprs (null_call at post_name site) (more_exprs (a_name at (result_name site)) no_exprs))))
+post_wanted at site e z old one two new p q c r =
+    sym (onto_none new) ∙ (onto_one two new z _ c r no_exprs ∙ (q (more_exprs (a_name at (result_name site)) no_exprs)
+    ∙ p (more_exprs (null_call at post_name site) (more_exprs (a_name at (result_name site)) no_exprs))))
 
 -- the whole
 pub marked_made : (at site : ℕ) (w : Bool) (c : Called) (d f one y : Expr) (es passed : Exprs) (first second third : List ExprTree) (last : List ExprTree) (k : Bool)
@@ -90,9 +89,9 @@ marked_made at site w c d f one y es passed first second third last k ds is args
     ∙ (third_is tail ∙ (ap (λ x. exprs_onto second (more_exprs x tail)) pre ∙ (args (more_exprs (null_call at pre_name site) tail) ∙ ds (keep_arguments at site 0 es (more_exprs (null_call at pre_name site) tail))))))))
 
 -- a pointer is kept
-pub keeps_some : (at site : ℕ) (o : Option CType) (t : CType) (d : Expr) (old new : List ExprTree) (k : ExprTree) → o ≡ Some t → expr_of k ≡ kept_in at (designator_name site) d
-    → ((rest : Exprs) → exprs_onto new rest ≡ exprs_onto old (more_exprs (expr_of k) rest)) → (rest : Exprs) → exprs_onto new rest ≡ exprs_onto old (keep_designator at site o d rest)
-keeps_some at site o t d old new k q kept step rest = onto_one old new k _ kept step rest ∙ ap (λ p. exprs_onto old (keep_designator at site p d rest)) (sym q)
+pub keeps_some : (at site : ℕ) (o : Option CType) (t : CType) (d : Expr) (old new : List ExprTree) → o ≡ Some t
+    → ((rest : Exprs) → exprs_onto new rest ≡ exprs_onto old (more_exprs (kept_in at (designator_name site) d) rest)) → (rest : Exprs) → exprs_onto new rest ≡ exprs_onto old (keep_designator at site o d rest)
+keeps_some at site o t d old new q step rest = step rest ∙ ap (λ p. exprs_onto old (keep_designator at site p d rest)) (sym q)
 
 pub gives_some : (at site : ℕ) (o : Option CType) (t : CType) (d e : Expr) → o ≡ Some t → e ≡ a_name at (designator_name site) → e ≡ kept_designator at site o d
 gives_some at site o t d e q named = named ∙ ap (λ p. kept_designator at site p d) (sym q)

@@ -5,12 +5,14 @@ use Rattle.c_syntax.specs.declared.tree.Expr.{Expr as ExprTree}
 use Rattle.c_syntax.specs.declared.tree.ExprKind.{ExprKind, Int, Char, Str, Comma', SizeofType, Cast', Call', Member', Arrow', PostInc', PostDec', PreInc', PreDec', SizeofExpr', Unary', Index', And', Or', Binary', Assign', Cond'}
 use Rattle.c_syntax.specs.declared.tree.ExprKind.{Name as Named}
 use Rattle.c_syntax.specs.declared.tree.ExprKind.TheVariants.{Unary}
+use Rattle.c_syntax.specs.declared.tree.Spec.{Spec as Specified}
+use Rattle.c_syntax.specs.declared.tree.Spec.TheVariants.{Void}
 use Rattle.c_syntax.specs.declared.tree.TypeName.{TypeName as TypeTree, out-TypeName}
 use Rattle.c_syntax.specs.declared.tree.Declarator.{Declarator as DeclaratorTree}
 use Rattle.c_syntax.specs.declared.tree.DeclaratorKind.{DeclaratorKind, Name, Pointer', Array', Function'}
 use Rattle.c_syntax.specs.View.{spec_of, expr_at, expr_of, type_name_of, declarator_at}
 use Rattle.c_syntax.specs.Writes.{declarator_in}
-use Rattle.c_check_counts.proofs.Rows.{type_name_is}
+use Rattle.c_syntax.proofs.NodeRows.{type_name_is}
 use Rattle.c_syntax.specs.Tree.{Spec, void, char, unsigned_char, int, unsigned_int, struct, enum, type_name, nothing}
 use Rattle.c_syntax.specs.Tree.{Expr, a_name, an_int, a_char, a_str, comma, sizeof_type, cast, call, member, postfix, prefix, unary, index, binary, assign, conditional, TypeName}
 use Rattle.c_rules.specs.Counts.{calls}
@@ -59,6 +61,10 @@ without_kept sites b false at op place inner e h = sym (ap (λ t. if t then kept
 
 -- ## Names of types
 
+pub other_spec : (s : Specified) → (s ≡ Void → ⊥) → (at : ℕ) → false ≡ is_void_type (type_name at (spec_of s) nothing)
+other_spec Void never at = absurd (never refl)
+other_spec s never at = refl
+
 named_void : (at here : ℕ) (k : DeclaratorKind) → is_void_type (type_name at void (declarator_at here k)) ≡ false
 named_void at here (Name x) = refl
 named_void at here k = refl
@@ -83,10 +89,10 @@ without_declarator n b is h = h (out-TypeName n).at ∙ sym (told_by n None is)
 
 -- ## Operators that are left out
 
--- an operator that is left out with its own has the form of one
-pub is_unary : (w : Bool) (op at : ℕ) (k : ExprKind) → ((inner : ℕ) (x : Box ExprTree Global) → k ≡ Unary inner x → ⊥) → is_left_out w op (expr_at at k) ≡ true → ⊥
-is_unary false op at (Unary' inner p a k) never h = never inner (record { ptr = p.ptr; alloc = p.alloc; value = record { at = a; kind = k } }) refl
-is_unary w op at k never h = cc
+-- an operator before another form stays
+pub stays_before : (w : Bool) (op at : ℕ) (k : ExprKind) → ((inner : ℕ) (x : Box ExprTree Global) → k ≡ Unary inner x → ⊥) → false ≡ is_left_out w op (expr_at at k)
+stays_before false op at (Unary' inner p a k) never = absurd (never inner (record { ptr = p.ptr; alloc = p.alloc; value = record { at = a; kind = k } }) refl)
+stays_before w op at k never = refl
 
 -- ## An expression where both operators are left out
 
@@ -111,4 +117,4 @@ module _ (sites : Sites) (b : ℕ) (w : Bool) (e : ExprTree) (op : ℕ) (a : Box
     alone_calls = ap calls (sym whole_is)
 
   pub never_other : ((inner : ℕ) (x : Box ExprTree Global) → a.value.kind ≡ Unary inner x → ⊥) → ⊥
-  never_other never = is_unary w op a.value.at a.value.kind never (sym left)
+  never_other never = let stays = stays_before w op a.value.at a.value.kind never in cc

@@ -1,8 +1,8 @@
 pub mod Wanted
 pub mod Lists
+pub mod Operands
 pub use Rattle.null_calls_temporaries.specs.Kept
 pub use Rattle.null_calls_temporaries.specs.Sited
-pub use Rattle.c_check_counts.specs.Seen
 pub use Rattle.null_calls_temporaries.specs.Instrumented
 pub use Rattle.null_calls_temporaries.specs.InstrumentedExpressions
 pub use Rattle.null_calls_temporaries.specs.InstrumentedStatements

@@ -7,14 +7,13 @@ ghost use Rattle.null_calls_temporaries.specs.InstrumentedExpressions as marks;
 ghost use Rattle.null_calls_temporaries.specs.Kept.{temporaries_of};
 
 use crate::marked::{add_where, call_where};
+use crate::operands::{with_operand, with_operands};
 use crate::wanted::{is_void, is_wanted_at, is_without};
 use c_syntax::{Expr, ExprKind};
 use dm_base::OutOfMemory;
 use dm_counts::Count;
 use null_calls_temporaries::{
-    MarkedSites, Temporary, and_node, arrow_node, assign_node, binary_node, cast_node, comma_node,
-    cond_node, copy_expr, copy_ident, copy_type_name, index_node, member_node, or_node,
-    post_dec_node, post_inc_node, pre_dec_node, pre_inc_node, unary_node,
+    MarkedSites, Temporary, cast_node, comma_node, cond_node, copy_expr, copy_type_name, unary_node,
 };
 use std::alloc::Global;
 
@@ -36,12 +35,12 @@ pub fn expression<'p>(
 {
     let at = e.at;
     match &e.kind {
-        ExprKind::Name(_) => copy_expr(alloc, e),
-        ExprKind::Int { .. } => copy_expr(alloc, e),
-        ExprKind::Char(_) => copy_expr(alloc, e),
-        ExprKind::Str(_) => copy_expr(alloc, e),
-        ExprKind::SizeofType(_) => copy_expr(alloc, e),
-        ExprKind::SizeofExpr(_) => copy_expr(alloc, e),
+        ExprKind::Name(_)
+        | ExprKind::Int { .. }
+        | ExprKind::Char(_)
+        | ExprKind::Str(_)
+        | ExprKind::SizeofType(_)
+        | ExprKind::SizeofExpr(_) => copy_expr(alloc, e),
         ExprKind::Comma(es) => {
             let list = members(alloc, table, wanted, es, next, kept)?;
             Ok(comma_node(at, list))
@@ -49,8 +48,7 @@ pub fn expression<'p>(
         ExprKind::Cast(n, a) => {
             let target = copy_type_name(alloc, n)?;
             let operand = expression(alloc, table, !is_void(n), a, next, kept)?;
-            let made = cast_node(alloc, at, target, operand)?;
-            Ok(made)
+            cast_node(alloc, at, target, operand)
         }
         ExprKind::Call(d, es) => {
             let designator = expression(alloc, table, true, d, next, kept)?;
@@ -58,40 +56,16 @@ pub fn expression<'p>(
             next.raise()?;
             add_where(alloc, kept, wanted, marked)?;
             let list = arguments(alloc, table, es, next, kept)?;
-            let made = call_where(alloc, at, wanted, marked, designator, list)?;
-            Ok(made)
+            call_where(alloc, at, wanted, marked, designator, list)
         }
-        ExprKind::Member(a, x) => {
-            let object = expression(alloc, table, true, a, next, kept)?;
-            let name = copy_ident(alloc, x)?;
-            let made = member_node(alloc, at, object, name)?;
-            Ok(made)
-        }
-        ExprKind::Arrow(a, x) => {
-            let object = expression(alloc, table, true, a, next, kept)?;
-            let name = copy_ident(alloc, x)?;
-            let made = arrow_node(alloc, at, object, name)?;
-            Ok(made)
-        }
-        ExprKind::PostInc(a) => {
+        ExprKind::Member(a, _)
+        | ExprKind::Arrow(a, _)
+        | ExprKind::PostInc(a)
+        | ExprKind::PostDec(a)
+        | ExprKind::PreInc(a)
+        | ExprKind::PreDec(a) => {
             let operand = expression(alloc, table, true, a, next, kept)?;
-            let made = post_inc_node(alloc, at, operand)?;
-            Ok(made)
-        }
-        ExprKind::PostDec(a) => {
-            let operand = expression(alloc, table, true, a, next, kept)?;
-            let made = post_dec_node(alloc, at, operand)?;
-            Ok(made)
-        }
-        ExprKind::PreInc(a) => {
-            let operand = expression(alloc, table, true, a, next, kept)?;
-            let made = pre_inc_node(alloc, at, operand)?;
-            Ok(made)
-        }
-        ExprKind::PreDec(a) => {
-            let operand = expression(alloc, table, true, a, next, kept)?;
-            let made = pre_dec_node(alloc, at, operand)?;
-            Ok(made)
+            with_operand(alloc, e, operand)
         }
         ExprKind::Unary(op, a) => {
             if is_without(wanted, *op, a) {
@@ -101,45 +75,22 @@ pub fn expression<'p>(
                 return expression(alloc, table, false, inner, next, kept);
             }
             let operand = expression(alloc, table, true, a, next, kept)?;
-            let made = unary_node(alloc, at, *op, operand)?;
-            Ok(made)
+            unary_node(alloc, at, *op, operand)
         }
-        ExprKind::Index(a, b) => {
+        ExprKind::Index(a, b)
+        | ExprKind::And(a, b)
+        | ExprKind::Or(a, b)
+        | ExprKind::Binary(_, a, b)
+        | ExprKind::Assign(_, a, b) => {
             let left = expression(alloc, table, true, a, next, kept)?;
             let right = expression(alloc, table, true, b, next, kept)?;
-            let made = index_node(alloc, at, left, right)?;
-            Ok(made)
-        }
-        ExprKind::And(a, b) => {
-            let left = expression(alloc, table, true, a, next, kept)?;
-            let right = expression(alloc, table, true, b, next, kept)?;
-            let made = and_node(alloc, at, left, right)?;
-            Ok(made)
-        }
-        ExprKind::Or(a, b) => {
-            let left = expression(alloc, table, true, a, next, kept)?;
-            let right = expression(alloc, table, true, b, next, kept)?;
-            let made = or_node(alloc, at, left, right)?;
-            Ok(made)
-        }
-        ExprKind::Binary(op, a, b) => {
-            let left = expression(alloc, table, true, a, next, kept)?;
-            let right = expression(alloc, table, true, b, next, kept)?;
-            let made = binary_node(alloc, at, *op, left, right)?;
-            Ok(made)
-        }
-        ExprKind::Assign(op, a, b) => {
-            let left = expression(alloc, table, true, a, next, kept)?;
-            let right = expression(alloc, table, true, b, next, kept)?;
-            let made = assign_node(alloc, at, *op, left, right)?;
-            Ok(made)
+            with_operands(alloc, e, left, right)
         }
         ExprKind::Cond(test, yes, no) => {
             let first = expression(alloc, table, true, test, next, kept)?;
             let second = expression(alloc, table, true, yes, next, kept)?;
             let third = expression(alloc, table, true, no, next, kept)?;
-            let made = cond_node(alloc, at, first, second, third)?;
-            Ok(made)
+            cond_node(alloc, at, first, second, third)
         }
     }
 }

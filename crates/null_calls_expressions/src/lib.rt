@@ -3,6 +3,7 @@
 
 mod expressions;
 mod marked;
+mod operands;
 mod wanted;
 
 pub use expressions::expression;

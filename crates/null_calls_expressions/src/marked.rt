@@ -1,7 +1,7 @@
 // A call, with null calls round it where it is marked.
 
 ghost use Rattle.std.specs.Prelude.{◌≡◌, ◌++◌, ℕ, true, false, Option, OnOk, IfOk};
-ghost use Rattle.c_syntax.specs.Tree.{Exprs, more_exprs};
+ghost use Rattle.c_syntax.specs.Tree.{Exprs, a_name, more_exprs};
 ghost use Rattle.c_syntax.specs.View.{expr_of};
 ghost use Rattle.c_syntax.specs.Writes.{exprs_of};
 ghost use Rattle.null_calls_temporaries.specs.Sited.{type_where, called_of, IsCallAt};
@@ -36,6 +36,23 @@ fn keep(alloc: Global, at: u32, name: Bytes, e: Expr) -> Result<Expr, OutOfMemor
     assign_node(alloc, at, ASSIGN, name_node(at, name), e)
 }
 
+// Adds the assignment to the temporary, and gives the temporary. Its name is given twice.
+fn add_kept(
+    alloc: Global,
+    at: u32,
+    name: Bytes,
+    again: Bytes,
+    e: Expr,
+    list: &mut Vec<Expr>,
+) -> Result<Expr, OutOfMemory>
+    ensures keeps { OnOk result ((rest : Exprs) → exprs_onto list.new.items rest ≡ exprs_onto list.old.items (more_exprs (marks.kept_in at name (expr_of e)) rest)) }
+    ensures gives { IfOk result (λ made. expr_of made ≡ a_name at again) }
+{
+    let kept = keep(alloc, at, name, e)?;
+    add(list, kept)?;
+    Ok(name_node(at, again))
+}
+
 // The null call with this name.
 fn null_call(alloc: Global, at: u32, name: Bytes, site: u32) -> Result<Expr, OutOfMemory>
     ensures { IfOk result (λ made. expr_of made ≡ marks.null_call at name site) }
@@ -61,12 +78,27 @@ fn add_designator<'p>(
         None => Ok(designator),
         Some(_) => {
             let name = designator_name(alloc, site)?;
-            let kept = keep(alloc, at, name, designator)?;
-            add(list, kept)?;
             let again = designator_name(alloc, site)?;
-            Ok(name_node(at, again))
+            add_kept(alloc, at, name, again, designator, list)
         }
     }
+}
+
+// Adds the assignment of the argument with this number to its temporary, and gives that.
+fn add_argument(
+    alloc: Global,
+    at: u32,
+    site: u32,
+    i: u64,
+    one: Expr,
+    list: &mut Vec<Expr>,
+) -> Result<Expr, OutOfMemory>
+    ensures keeps { OnOk result ((rest : Exprs) → exprs_onto list.new.items rest ≡ exprs_onto list.old.items (more_exprs (marks.kept_in at (temporaries.argument_name site i) (expr_of one)) rest)) }
+    ensures gives { IfOk result (λ made. expr_of made ≡ a_name at (temporaries.argument_name site i)) }
+{
+    let name = argument_name(alloc, site, i)?;
+    let again = argument_name(alloc, site, i)?;
+    add_kept(alloc, at, name, again, one, list)
 }
 
 // Adds the assignments of the arguments to their temporaries, and gives these.
@@ -83,13 +115,19 @@ fn add_arguments(
     let mut passed = Vec::new(alloc);
     for one in arguments {
         let i = passed.len() as u64;
-        let name = argument_name(alloc, site, i)?;
-        let kept = keep(alloc, at, name, one)?;
-        add(list, kept)?;
-        let again = argument_name(alloc, site, i)?;
-        passed.push(name_node(at, again))?;
+        let given = add_argument(alloc, at, site, i, one, list)?;
+        passed.push(given)?;
     }
     Ok(passed)
+}
+
+// Adds the null call after a marked call.
+fn add_post(alloc: Global, at: u32, site: u32, list: &mut Vec<Expr>) -> Result<(), OutOfMemory>
+    ensures { OnOk result ((rest : Exprs) → exprs_onto list.new.items rest ≡ exprs_onto list.old.items (more_exprs (marks.null_call at temporaries.post_name site) rest)) }
+{
+    let name = post_name(alloc)?;
+    let after = null_call(alloc, at, name, site)?;
+    add(list, after)
 }
 
 // Adds the call, whose result isn't kept, and the null call after it.
@@ -103,10 +141,7 @@ fn add_bare_call(
     ensures { OnOk result (exprs_of list.new.items ≡ exprs_onto list.old.items (marks.call_and_post at site false (expr_of one))) }
 {
     add(list, one)?;
-    let name = post_name(alloc)?;
-    let after = null_call(alloc, at, name, site)?;
-    add(list, after)?;
-    Ok(())
+    add_post(alloc, at, site, list)
 }
 
 // Adds the call, whose result is kept, the null call after it, and the result.
@@ -120,15 +155,10 @@ fn add_kept_call(
     ensures { OnOk result (exprs_of list.new.items ≡ exprs_onto list.old.items (marks.call_and_post at site true (expr_of one))) }
 {
     let name = result_name(alloc, site)?;
-    let keeping = keep(alloc, at, name, one)?;
-    add(list, keeping)?;
-    let post = post_name(alloc)?;
-    let after = null_call(alloc, at, post, site)?;
-    add(list, after)?;
     let again = result_name(alloc, site)?;
-    let value = name_node(at, again);
-    add(list, value)?;
-    Ok(())
+    let value = add_kept(alloc, at, name, again, one, list)?;
+    add_post(alloc, at, site, list)?;
+    add(list, value)
 }
 
 fn add_call_and_post(
@@ -162,10 +192,10 @@ fn marked_call<'p>(
     let mut list = Vec::new(alloc);
     let function = add_designator(alloc, at, site, called.pointer_type, designator, &mut list)?;
     let passed = add_arguments(alloc, at, site, arguments, &mut list)?;
+    let one = call_node(alloc, at, function, passed)?;
     let name = pre_name(alloc)?;
     let before = null_call(alloc, at, name, site)?;
     add(&mut list, before)?;
-    let one = call_node(alloc, at, function, passed)?;
     let kept = is_kept(wanted, called.returns);
     add_call_and_post(alloc, at, site, kept, one, &mut list)?;
     Ok(comma_node(at, list))

@@ -15,12 +15,7 @@ fn is_void_spec(s: &Spec) -> bool
 {
     match s {
         Spec::Void => true,
-        Spec::Char => false,
-        Spec::Uchar => false,
-        Spec::Int => false,
-        Spec::Uint => false,
-        Spec::Struct(_) => false,
-        Spec::Enum(_) => false,
+        _ => false,
     }
 }
 
@@ -43,27 +38,7 @@ pub fn is_without(wanted: bool, op: u8, a: &Expr) -> bool
     }
     match &a.kind {
         ExprKind::Unary(inner, _) => op == AMPERSAND && *inner == ASTERISK,
-        ExprKind::Name(_) => false,
-        ExprKind::Int { .. } => false,
-        ExprKind::Char(_) => false,
-        ExprKind::Str(_) => false,
-        ExprKind::Comma(_) => false,
-        ExprKind::SizeofType(_) => false,
-        ExprKind::Cast(_, _) => false,
-        ExprKind::Call(_, _) => false,
-        ExprKind::Member(_, _) => false,
-        ExprKind::Arrow(_, _) => false,
-        ExprKind::PostInc(_) => false,
-        ExprKind::PostDec(_) => false,
-        ExprKind::PreInc(_) => false,
-        ExprKind::PreDec(_) => false,
-        ExprKind::SizeofExpr(_) => false,
-        ExprKind::Index(_, _) => false,
-        ExprKind::And(_, _) => false,
-        ExprKind::Or(_, _) => false,
-        ExprKind::Binary(_, _, _) => false,
-        ExprKind::Assign(_, _, _) => false,
-        ExprKind::Cond(_, _, _) => false,
+        _ => false,
     }
 }
 

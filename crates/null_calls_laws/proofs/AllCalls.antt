@@ -5,8 +5,8 @@ use Rattle.c_tree.specs.Tree.{CType, void, integer, pointer, function, CTypes, t
 use Rattle.c_tree.specs.Tree as typed
 use Rattle.c_tree.specs.Functions.{called_type}
 use Rattle.c_tree.specs.Operands.{IsResult}
-use Rattle.c_meaning_laws.specs.Mentions.{Direct, Through}
-use Rattle.c_meaning_laws.specs.CallGraph.{is_marked}
+use Rattle.c_meaning.specs.Mentions.{Direct, Through}
+use Rattle.c_meaning.specs.CallGraph.{is_marked}
 use Rattle.c_syntax.specs.Tree.{Expr, a_name, call, Exprs}
 use Rattle.c_rules.specs.Checked.{Fault, Checked, fine, faulty, demand, on, all_three, met}
 use Rattle.c_rules.specs.Types.{count}

@@ -10,10 +10,10 @@ use Rattle.c_tree.specs.Operators.{Answer, gives, undefined}
 use Rattle.c_values.specs.Memory.{Objects as Memory}
 use Rattle.c_meaning.specs.Meaning.{Frame, either, name_in}
 use Rattle.c_meaning.specs.Results.{State, with_memory, Result, Go, Stop, after, then_do, spend_at, answered, Exit, on, broken, returned, on_exit, on_round}
-use Rattle.c_meaning_laws.specs.StoreTyping.{Grows}
-use Rattle.c_meaning_laws.specs.TypedResults.{EndsTyped}
-use Rattle.c_meaning_laws.specs.FurtherObjects.{IsHidden, IsBeside, DoesAlike}
-use Rattle.c_meaning_laws.proofs.Together.{Whenever, Now, alike_on}
+use Rattle.c_meaning.specs.StoreTyping.{Grows}
+use Rattle.c_meaning.specs.TypedResults.{EndsTyped}
+use Rattle.c_meaning.specs.FurtherObjects.{IsHidden, IsBeside, DoesAlike}
+use Rattle.c_meaning.proofs.Together.{Whenever, Now, alike_on}
 use Rattle.null_calls_laws.specs.Pieces.{IsKept}
 
 -- ## Parts one after the other

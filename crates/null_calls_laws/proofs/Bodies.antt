@@ -15,18 +15,18 @@ use Rattle.c_tree.specs.Typed.{IsStmt, AreStmts}
 use Rattle.c_values.specs.Memory.{Object, changed}
 use Rattle.c_values.specs.Memory.{Objects as Memory}
 use Rattle.c_values.proofs.StoreLemmas.{changed_there}
-use Rattle.c_meaning_laws.specs.Mentions.{mentions_of_stmt, mentions_of_stmts}
+use Rattle.c_meaning.specs.Mentions.{mentions_of_stmt, mentions_of_stmts}
 use Rattle.c_meaning.specs.Meaning.{Frame, World, name_in, declared_in, without, leaving, exec, exec_all}
 use Rattle.c_meaning.specs.Results.{State, with_memory, Result, Go, Stop, Exit}
 use Rattle.c_meaning.specs.Runs.{no_marks}
-use Rattle.c_meaning_laws.specs.StoreTyping.{IsTypedMemory, IsTypedFrame}
-use Rattle.c_meaning_laws.specs.TypedResults.{EndsTyped, IsExit, StandsIn, IsTypedWorld}
-use Rattle.c_meaning_laws.proofs.Places.{get_left, get_right}
-use Rattle.c_meaning_laws.proofs.Keeps.{stmts_end}
-use Rattle.c_meaning_laws.specs.FurtherObjects.{IsHidden, IsBeside, Stay, DoesAlike}
-use Rattle.c_meaning_laws.proofs.Together.{Now}
-use Rattle.c_meaning_laws.proofs.Statements.{AreShown, without_beside, without_stays}
-use Rattle.c_meaning_laws.proofs.FurtherWorlds.{later_shown}
+use Rattle.c_meaning.specs.StoreTyping.{IsTypedMemory, IsTypedFrame}
+use Rattle.c_meaning.specs.TypedResults.{EndsTyped, IsExit, StandsIn, IsTypedWorld}
+use Rattle.c_meaning.proofs.Places.{get_left, get_right}
+use Rattle.c_meaning.proofs.Keeps.{stmts_end}
+use Rattle.c_meaning.specs.FurtherObjects.{IsHidden, IsBeside, Stay, DoesAlike}
+use Rattle.c_meaning.proofs.Together.{Now}
+use Rattle.c_meaning.proofs.Statements.{AreShown, without_beside, without_stays}
+use Rattle.c_meaning.proofs.FurtherWorlds.{later_shown}
 use Rattle.null_calls_laws.specs.MarkedRuns.{null_calls_of}
 use Rattle.null_calls_laws.proofs.Lists.{not_below, if_has}
 use Rattle.null_calls_laws.proofs.TypedRuns.{null_calls_recorded}

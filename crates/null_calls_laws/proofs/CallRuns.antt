@@ -17,24 +17,24 @@ use Rattle.c_tree.specs.Program.{IsProgram}
 use Rattle.c_values.specs.Memory.{Object, same_name, changed}
 use Rattle.c_values.specs.Memory.{Objects as Memory}
 use Rattle.c_values.proofs.StoreLemmas.{same_is, changed_there}
-use Rattle.c_meaning_laws.specs.Mentions.{Callee, Calls}
-use Rattle.c_meaning_laws.specs.CallGraph.{is_marked, marked_where}
+use Rattle.c_meaning.specs.Mentions.{Callee, Calls}
+use Rattle.c_meaning.specs.CallGraph.{is_marked, marked_where}
 use Rattle.c_meaning.specs.Meaning.{Marks, Frame, World, name_in, wants, call_undefined, called, system_call_alone, called_through, eval, eval_each}
 use Rattle.c_meaning.specs.Pointers.{callee, place, store_place}
 use Rattle.c_meaning.specs.Results.{State, with_memory, Result, Go, Stop, after, then_do, answered, remembered}
 use Rattle.c_meaning.specs.Runs.{no_marks}
-use Rattle.c_meaning_laws.specs.StoreTyping.{HasKind, Grows, TellsOfStatics}
-use Rattle.c_meaning_laws.specs.TypedResults.{EndsTyped, Gives, GiveAll, StandsIn}
-use Rattle.c_meaning_laws.proofs.Places.{get_left}
-use Rattle.c_meaning_laws.proofs.Steps.{Right, IsCallee, callee_right}
-use Rattle.c_meaning_laws.proofs.Keeps.{arguments_kind}
-use Rattle.c_meaning_laws.specs.FurtherObjects.{IsHidden, DoesAlike}
-use Rattle.c_meaning_laws.proofs.Together.{Whenever, Now, Does as Alike, undefined_does, alone_does, answered_then as then_alike}
-use Rattle.c_meaning_laws.proofs.Expressions.{defined_at, zip_shown}
+use Rattle.c_meaning.specs.StoreTyping.{HasKind, Grows, TellsOfStatics}
+use Rattle.c_meaning.specs.TypedResults.{EndsTyped, Gives, GiveAll, StandsIn}
+use Rattle.c_meaning.proofs.Places.{get_left}
+use Rattle.c_meaning.proofs.Steps.{Right, IsCallee, callee_right}
+use Rattle.c_meaning.proofs.Keeps.{arguments_kind}
+use Rattle.c_meaning.specs.FurtherObjects.{IsHidden, DoesAlike}
+use Rattle.c_meaning.proofs.Together.{Whenever, Now, Does as Alike, undefined_does, alone_does, answered_then as then_alike}
+use Rattle.c_meaning.proofs.Expressions.{defined_at, zip_shown}
 use Rattle.null_calls_laws.specs.MarkedRuns.{null_calls_of}
 use Rattle.null_calls_laws.proofs.Lists.{is_first}
 use Rattle.null_calls_laws.proofs.Marking.{marks_if}
-use Rattle.c_meaning_laws.proofs.SitesSaid.{callee_found}
+use Rattle.c_meaning.proofs.SitesSaid.{callee_found}
 use Rattle.null_calls_laws.proofs.TypedRuns.{null_calls_recorded}
 use Rattle.null_calls_laws.specs.Temporaries.{is_kept}
 use Rattle.null_calls_laws.specs.InstrumentedPrograms.{keep, kept_value, keep_all, null_call, call_and_post, pre_number, post_number, instrumented_program}

@@ -11,8 +11,8 @@ use Rattle.c_tree.specs.Tree.{CType, pointer, function, CTypes, Program, type_of
 use Rattle.c_tree.specs.Tree as typed
 use Rattle.c_tree.specs.Functions.{defined, value_type, called_type, value_types, type_of_defined, sys_types, null_types}
 use Rattle.c_tree.specs.Operands.{IsResult}
-use Rattle.c_meaning_laws.specs.Mentions.{Mention, Calls, Direct, Through, mentions_of_program, Callee as Shape}
-use Rattle.c_meaning_laws.specs.CallGraph.{is_marked, reaches, callee_at}
+use Rattle.c_meaning.specs.Mentions.{Mention, Calls, Direct, Through, mentions_of_program, Callee as Shape}
+use Rattle.c_meaning.specs.CallGraph.{is_marked, reaches, callee_at}
 use Rattle.c_syntax.specs.Tree.{Expr, a_name, an_int, a_char, a_str, comma, sizeof_type, cast, call, member, postfix, prefix, unary, index, binary, assign, conditional, Exprs, no_exprs, more_exprs}
 use Rattle.c_syntax.specs.Tree.{Postfix, post_increment, post_decrement, pre_increment, pre_decrement, sizeof, Access, dot, arrow}
 use Rattle.c_rules.specs.Checked.{Checked, fine, on, both, all_three}

@@ -1,10 +1,10 @@
 -- The calls of initialisers that are fine stand at their sites.
-use Rattle.std.proofs.Common.{append-nil, ◌≡◌, ℕ, zero, suc, ◌+◌, ◌-◌, ◌≤◌, Bool, true, false, List, [], ◌∷◌, ◌++◌, map, length, replicate, append_assoc, nat_le, refl, ap, ap₂, sym, subst, ◌∙◌, arith}
+use Rattle.std.proofs.Common.{append-nil, ℕ, zero, suc, ◌+◌, ◌-◌, ◌≤◌, Bool, true, false, List, [], ◌∷◌, ◌++◌, map, length, replicate, nat_le, refl, sym, subst, ◌∙◌, arith}
 use Rattle.std.proofs.lemmas.Bool.{leb-true}
 use Rattle.c_tree.specs.declared.value.IntType.TheVariants.{Char}
 use Rattle.c_tree.specs.Tree.{CType, integer, pointer, array, Program}
 use Rattle.c_tree.specs.Layout.{Structs, flat, flat_all, repeat}
-use Rattle.c_meaning_laws.specs.Mentions.{Mention}
+use Rattle.c_meaning.specs.Mentions.{Mention}
 use Rattle.c_syntax.specs.Tree.{Expr, a_str, Init, one, list, MaybeInit, no_init, an_init}
 use Rattle.c_syntax.specs.Tree as syntax
 use Rattle.c_rules.specs.Checked.{Checked, fine, on}
@@ -13,30 +13,22 @@ use Rattle.c_rules.specs.Scopes.{Env, Before, layout_of}
 use Rattle.c_rules.specs.TypedExpression.{TypedExpression, tree_of}
 use Rattle.c_rules.specs.Conversions.{as_if_assigned}
 use Rattle.c_rules.specs.Expressions.{value}
-use Rattle.c_rules.specs.Initialisers.{Slots, copies, each, slots, capacity, takes_list, count_inits, text_of, typed_zero, typed_char, zeros, chars, cell_of, scalar_cell, array_cells, cells_of_list, after_init, calls_of_init, calls_of_inits, calls_of_maybe_init, initialised, in_turn, initialised_local, stores_from, text_fits}
+use Rattle.c_rules.specs.Initialisers.{Slots, copies, each, slots, capacity, takes_list, count_inits, text_of, typed_zero, typed_char, zeros, chars, cell_of, scalar_cell, array_cells, cells_of_list, after_init, calls_of_init, calls_of_inits, calls_of_maybe_init, initialised, in_turn, initialised_local, text_fits}
 use Rattle.null_calls_laws.specs.MarkedCalls.{sites_of}
 use Rattle.null_calls_laws.specs.Temporaries.{Temporary}
 use Rattle.null_calls_laws.specs.InstrumentedStatements.{kept_of_init, kept_of_inits, kept_of_maybe_init}
 use Rattle.null_calls_laws.specs.CountedStatements.{InitNamed, InitsNamed, MaybeInitNamed}
 use Rattle.null_calls_laws.specs.Initialisers.{InitTabled, InitsTabled, MaybeInitTabled}
 use Rattle.c_rules_laws.proofs.Holding.{Holds, holds_map, on_holds, both_hold, demand_holds, behind_demand, after_part}
-use Rattle.null_calls_laws.specs.CallsIn.{calls_in, calls_in_inits, all_calls}
+use Rattle.null_calls_laws.specs.CallsIn.{calls_in, all_calls}
 use Rattle.null_calls_laws.specs.AbstractCasts.{InitNamesNoType, InitsNameNoType, MaybeInitNamesNoType}
 use Rattle.null_calls_laws.specs.Scopes.{IsWrittenScope, AreTemporaries}
 use Rattle.null_calls_laws.proofs.Kept.{none_kept, good_both, kept_good}
 use Rattle.null_calls_laws.proofs.Tables.{Table as CallTable, InTable, in_first, in_rest}
 use Rattle.null_calls_laws.proofs.CallsOfExpressions.{Tells, Passes, T, value_passes}
-use Rattle.c_rules_laws.proofs.GatheredOfTypedExpressions.{Gathers, AllGather, as_if_gathered}
+use Rattle.c_rules_laws.proofs.GatheredOfTypedExpressions.{Gathers, AllGather, lists_gathered, as_if_gathered}
 
 -- ## Cells
-
-both_givens : (gs hs : List TypedExpression) (xs ys : List Mention) → AllGather all_calls xs gs → AllGather all_calls ys hs → AllGather all_calls (xs ++ ys) (gs ++ hs)
-both_givens [] hs xs ys h k = subst (λ zs. AllGather all_calls (zs ++ ys) hs) (sym h) k
-both_givens (g ∷ gs) hs xs ys h k = (h.0, h.1 ++ ys, h.2, both_givens gs hs h.1 ys h.3 k, ap (λ zs. zs ++ ys) h.4 ∙ append_assoc h.0 h.1 ys)
-
-pub stores_sites : (k : ℕ) (gs : List TypedExpression) (xs : List Mention) → AllGather all_calls xs gs → calls_in_inits (stores_from k gs) ≡ xs
-stores_sites k [] xs h = sym h
-stores_sites k (g ∷ gs) xs h = ap₂ (λ x y. x ++ y) h.2.0 (stores_sites (suc k) gs h.1 h.3) ∙ sym h.4
 
 one_given : (xs : List Mention) (g : TypedExpression) → Gathers all_calls xs g → AllGather all_calls xs (g ∷ [])
 one_given xs g h = (xs, [], h, refl, sym (append-nil xs))
@@ -54,7 +46,7 @@ slots_silent structs (copies n t) = zeros_silent (repeat n (flat structs t))
 slots_silent structs (each ts) = zeros_silent (flat_all structs ts)
 
 chars_silent : (n : ℕ) (w : List ℕ) → AllGather all_calls [] (chars n w)
-chars_silent n w = both_givens (map typed_char w) (replicate (n - length w) (typed_char 0)) [] [] (all w) (ends (n - length w))
+chars_silent n w = lists_gathered all_calls (map typed_char w) (replicate (n - length w) (typed_char 0)) [] [] (all w) (ends (n - length w))
   where
     all : (w : List ℕ) → AllGather all_calls [] (map typed_char w)
     all [] = refl
@@ -106,7 +98,7 @@ module _ (p : Program) (enums tags stood : List Name) where
   list_passes X takes at most count r h = behind_demand (CellsTell X) takes 14 at _ (λ _. on_holds (λ gs. count ≤ most → CellsTell X gs) (CellsTell X) r _ h (λ gs k. demand_holds (CellsTell X) (nat_le count most) 14 at gs (λ q. k (leb-true count most q))))
 
   init_both : (X Y Z : Type 0) (gs hs : List TypedExpression) → (X → Y → Z) → CellsTell X gs → CellsTell Y hs → CellsTell Z (gs ++ hs)
-  init_both X Y Z gs hs f h k = (h.0 ++ k.0, both_givens gs hs h.0 k.0 h.1 k.1, λ z. f (h.2 (in_first Table h.0 k.0 z)) (k.2 (in_rest Table h.0 k.0 z)))
+  init_both X Y Z gs hs f h k = (h.0 ++ k.0, lists_gathered all_calls gs hs h.0 k.0 h.1 k.1, λ z. f (h.2 (in_first Table h.0 k.0 z)) (k.2 (in_rest Table h.0 k.0 z)))
 
   mutual
     initialised_passes : (i : Init) (env : Env) → Scope env → (b : Before) (t : CType) → InitNamesNoType i → Holds (CellsTell (InitPasses env b t i)) (initialised env b false t i)

@@ -1,5 +1,5 @@
 -- The calls of declarations and statements that are fine stand at their sites.
-use Rattle.std.proofs.Common.{unwrap_or, ◌≡◌, ℕ, ◌+◌, Bool, true, false, cond, List, [], ◌∷◌, ◌++◌, append_assoc, Option, Some, None, refl, ap, sym, subst, ◌∙◌}
+use Rattle.std.proofs.Common.{unwrap_or, ◌≡◌, ℕ, ◌+◌, Bool, true, false, cond, List, [], ◌∷◌, ◌++◌, Option, Some, None, refl, ap, sym, subst, ◌∙◌}
 use Rattle.std.proofs.lemmas.Bool.{cond_both}
 use Rattle.std.specs.Prelude.{bytes_eq}
 use Rattle.c_tree.specs.declared.value.IntType.{IntType}
@@ -7,7 +7,7 @@ use Rattle.c_tree.specs.Tree.{CType, Program}
 use Rattle.c_tree.specs.Tree as typed
 use Rattle.c_tree.specs.Functions.{called_type}
 use Rattle.c_tree.specs.Operands.{promoted}
-use Rattle.c_meaning_laws.specs.Mentions.{Mention, mentions_of_program}
+use Rattle.c_meaning.specs.Mentions.{Mention, mentions_of_program}
 use Rattle.c_syntax.specs.Tree.{Ident, Spec, Declarator, MaybeInit, Parts, no_parts, more_parts, Decl, decl, Expr, Maybe, absent, there, First, first_absent, first_expr, first_decl}
 use Rattle.c_syntax.specs.Tree.{Stmt, block, empty, evaluate, only_if, if_else, while_loop, do_loop, for_loop, switch_on, break_off, continue_on, return_from}
 use Rattle.c_syntax.specs.Tree.{BlockItems, no_block_items, block_decl, block_stmt, Stmts, no_stmts, more_stmts, Groups, no_groups, more_groups}
@@ -25,7 +25,7 @@ use Rattle.c_rules.specs.Expressions.{value, type_declared}
 use Rattle.c_rules.specs.Initialisers.{calls_of_maybe_init, initialised_local, stores_from}
 use Rattle.c_rules.specs.Objects.{Object, object_declared}
 use Rattle.c_rules.specs.Variables.{Next, number_in, past_names, names_of_decl, names_of_first, names_of_stmt, names_of_stmts, calls_of_parts, calls_of_decl, calls_of_first, calls_of_stmt, calls_of_block, calls_of_stmts, calls_of_groups}
-use Rattle.c_rules.specs.Blocks.{within_local, behind_named, behind_part, past_part, behind_parts, behind_decl, behind_first, after_part, after_decl, after_first, after_stmt, after_stmts, StatementTree, bare, with_tree, joined, one_more, alone, appended, some_more, laid_variable, local_of, local_named, local_part, local_parts, local_decl, is_given, local}
+use Rattle.c_rules.specs.Blocks.{within_local, behind_named, behind_part, past_part, behind_parts, behind_decl, behind_first, after_part, after_decl, after_first, after_stmt, after_stmts, StatementTree, bare, with_tree, joined, one_more, alone, some_more, laid_variable, local_of, local_named, local_part, local_parts, local_decl, is_given, local}
 use Rattle.c_rules.specs.Statements.{Around, in_loop, in_switch, condition_at, test_of, step_of, first_of, for_of, switched_kind, switched, label_type, labels_of, Labelled, labelled, switch_of, returned, stmt, items_of_block, stmts, groups_of_switch}
 use Rattle.null_calls_laws.specs.MarkedCalls.{sites_of}
 use Rattle.null_calls_laws.specs.Temporaries.{Temporary}
@@ -48,9 +48,9 @@ use Rattle.null_calls_laws.proofs.Declared.{part_tags, AreKnownTags, first_tags,
 use Rattle.null_calls_laws.proofs.Kept.{none_kept, good_both, kept_good}
 use Rattle.null_calls_laws.proofs.Tables.{Table as CallTable, InTable, in_first, in_rest, body_in_table}
 use Rattle.null_calls_laws.proofs.CallsOfExpressions.{Tells, Passes, T, value_passes}
-use Rattle.null_calls_laws.proofs.CallsOfInitialisers.{CellsTell, MaybeInitPasses, stores_sites, local_passes}
-use Rattle.c_rules_laws.proofs.GatheredOfTypedExpressions.{Gathers, as_if_gathered, converted_gathered}
-use Rattle.c_meaning_laws.specs.CallGraph.{callee_at}
+use Rattle.null_calls_laws.proofs.CallsOfInitialisers.{CellsTell, MaybeInitPasses, local_passes}
+use Rattle.c_rules_laws.proofs.GatheredOfTypedExpressions.{Gathers, stores_gathered, appended_gathered, as_if_gathered, converted_gathered}
+use Rattle.c_meaning.specs.CallGraph.{callee_at}
 use Rattle.null_calls_laws.specs.Bodies.{BodiesAreTabled}
 
 -- ## Scopes
@@ -144,7 +144,7 @@ module _ (p : Program) (enums tags stood : List Name) where
 
   laid_tells : (X : Type 0) (x : Name) (k : ℕ) (t : CType) (gs : List TypedExpression) → CellsTell p enums tags stood X gs → StmtTells X (laid_variable x k t gs)
   laid_tells X x k t gs h =
-      let told : InTable Table (calls_in_inits (stores_from 0 gs)) → X = λ z. h.2 (subst (InTable Table) (stores_sites 0 gs h.0 h.1) z) in
+      let told : InTable Table (calls_in_inits (stores_from 0 gs)) → X = λ z. h.2 (subst (InTable Table) (stores_gathered all_calls 0 gs h.0 h.1) z) in
       cond_both {A = StatementTree typed.Stmt} (is_added x) (record { tree = typed.declare k (stores_from 0 gs); plain = []; added = t ∷ [] }) (record { tree = typed.declare k (stores_from 0 gs); plain = t ∷ []; added = [] }) (StmtTells X) (λ _. told) (λ _. told)
 
   named_passes : (env : Env) → Scope env → (b : Before) (next : Next) (at : ℕ) (s : Spec) (d : Declarator) (m : MaybeInit) (o : Option Ident) → Known (tags_of_spec s ++ tags_of_declarator d) → MaybeInitNamesNoType m → Holds (StmtTells (NamedPasses env b next at s d m o)) (local_named env b next at s d m o)
@@ -233,10 +233,6 @@ module _ (p : Program) (enums tags stood : List Name) where
   switched_fits : (X : Type 0) (at : ℕ) (g : TypedExpression) (k : Kind) → Tells Table X g → Holds (Tells Table X) (switched_kind at g k)
   switched_fits X at g (an_integer i) h = (let s = converted_gathered all_calls (calls_in (tree_of g)) (promoted i) g (refl, h.0) in ((λ c. s.0 ∙ s.1 c), λ z. h.1 (subst (InTable Table) s.0 z)))
   switched_fits X at g k h = tt
-
-  calls_appended : (ss us : typed.Stmts) → calls_in_stmts (appended ss us) ≡ calls_in_stmts ss ++ calls_in_stmts us
-  calls_appended typed.no_stmts us = refl
-  calls_appended (typed.more_stmts s ss) us = ap (λ xs. calls_in_stmt s ++ xs) (calls_appended ss us) ∙ sym (append_assoc (calls_in_stmt s) (calls_in_stmts ss) (calls_in_stmts us))
 
   -- ## Statements
 
@@ -347,7 +343,7 @@ module _ (p : Program) (enums tags stood : List Name) where
         let kd : Known (tags_of_decl false d) = first_known (tags_of_decl false d) (tags_of_block false is) k in
         both_hold (StmtsTell (DeclPasses env b next d)) (StmtsTell (BlockPasses inner b1 later is)) (StmtsTell (BlockPasses env b next (block_decl d is))) (local_decl env b next d) (items_of_block inner a b1 later is) (λ q r. fine (some_more q r))
         (decl_passes d env w b next kd l.0) (block_passes is inner (decl_behind d env w next kd) a b1 later (rest_known (tags_of_decl false d) (tags_of_block false is) k) l.1)
-        (λ q r h g t. two_told (calls_in_stmts q.tree) (calls_in_stmts r.tree) (two_pass (kept_of_decl (sites_of p) b.sites d) (kept_of_block (sites_of p) (b.sites + calls_of_decl d) is)) h g (subst (InTable Table) (calls_appended q.tree r.tree) t))
+        (λ q r h g t. two_told (calls_in_stmts q.tree) (calls_in_stmts r.tree) (two_pass (kept_of_decl (sites_of p) b.sites d) (kept_of_block (sites_of p) (b.sites + calls_of_decl d) is)) h g (subst (InTable Table) (appended_gathered all_calls q.tree r.tree) t))
     block_passes (block_stmt s is) env w a b next k l =
         let later : Next = past_names next (names_of_stmt s) in
         let b1 : Before = after_stmt env b next s in

@@ -11,8 +11,8 @@ use Rattle.c_rules.specs.TypedExpression.{Form, a_value, not_constant, TypedExpr
 use Rattle.c_rules.specs.Conversions.{few_parts, loaded, valued_as}
 use Rattle.c_rules.specs.Assignments.{trees_of, last_type, comma_of}
 use Rattle.c_rules.specs.Expressions.{value_at, tree, trees, value}
-use Rattle.c_meaning_laws.specs.Mentions.{Direct, Through}
-use Rattle.c_meaning_laws.specs.CallGraph.{is_marked}
+use Rattle.c_meaning.specs.Mentions.{Direct, Through}
+use Rattle.c_meaning.specs.CallGraph.{is_marked}
 use Rattle.null_calls_laws.specs.MarkedCalls.{Sites}
 use Rattle.null_calls_laws.specs.Temporaries.{Temporary}
 use Rattle.null_calls_laws.specs.InstrumentedExpressions.{expr, members, kept, kept_of_members}

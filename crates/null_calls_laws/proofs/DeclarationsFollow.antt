@@ -7,7 +7,7 @@ use Rattle.c_rules.specs.Checked.{Checked, fine, fault, on, Met, gives, demand}
 use Rattle.c_rules.specs.Names.{Name, is_reserved}
 use Rattle.c_rules.specs.Scopes.{Env, Binding, Meaning, a_local, with_name, meaning_or_unknown, Before}
 use Rattle.c_rules.specs.Declarators.{name_of, place_or, new_name}
-use Rattle.c_rules.specs.Expressions.{value, type_declared}
+use Rattle.c_rules.specs.Expressions.{type_declared}
 use Rattle.c_rules.specs.Initialisers.{held_by, calls_of_maybe_init, initialised_local, text_fits}
 use Rattle.c_rules.specs.Objects.{Object, sized_by_one, with_size, of_known_size, object_declared}
 use Rattle.c_rules.specs.Variables.{name_or_empty, Next, number_in, calls_of_decl, names_of_decl, past_names}
@@ -16,7 +16,6 @@ use Rattle.c_rules.specs.Codes.{C13}
 use Rattle.c_rules.specs.Limits.{most_cells}
 use Rattle.null_calls_laws.specs.MarkedCalls.{Sites}
 use Rattle.null_calls_laws.specs.Temporaries.{Temporary}
-use Rattle.null_calls_laws.specs.InstrumentedExpressions.{expr, kept}
 use Rattle.null_calls_laws.specs.InstrumentedStatements.{maybe_init, parts, declaration, kept_of_maybe_init, kept_of_parts}
 use Rattle.null_calls_laws.specs.TypedAlike.{More, plain_scope, instrumented_scope, AreUnreserved, MeanAlike, beside}
 use Rattle.null_calls_laws.proofs.Leads.{Leads, fine_leads, first_fine, on_fine, alone_fine}

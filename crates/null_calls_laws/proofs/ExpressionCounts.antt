@@ -1,5 +1,5 @@
 -- What is counted in an expression with null calls round its marked calls: strings, calls, tags of structs and how deep its nodes stand in each other.
-use Rattle.std.proofs.Common.{◌≡◌, ℕ, suc, ◌+◌, ◌≤◌, max, Bool, true, false, if◌then◌else◌, List, [], ◌++◌, append_assoc, Option, None, Some, refl, ap, ap₂, sym, ◌∙◌, arith}
+use Rattle.std.proofs.Common.{◌≡◌, ℕ, suc, ◌+◌, ◌≤◌, max, Bool, true, false, List, [], ◌++◌, append_assoc, Option, None, Some, refl, ap, ap₂, sym, ◌∙◌, arith}
 use Rattle.c_tree.specs.Tree.{CType}
 use Rattle.c_syntax.specs.Tree.{Expr, a_name, comma, cast, call, member, postfix, prefix, unary, index, binary, assign, conditional, Exprs, no_exprs, more_exprs}
 use Rattle.c_syntax.specs.Tree.{pre_increment, pre_decrement}
@@ -13,6 +13,7 @@ use Rattle.null_calls_laws.specs.InstrumentedExpressions.{is_void_type, keep_des
 use Rattle.null_calls_laws.specs.Counts.{IsName, IsDesignator, AreNamed, AllNamed, ExpressionsCountAlike, PlacesStayNear}
 use Rattle.null_calls_laws.proofs.Alike.{Alike, same, beside, behind, deeper, lower}
 use Rattle.c_rules.proofs.NothingMore.{nothing_more}
+pub use Rattle.c_rules.proofs.Below.{either_has as by_type}
 
 -- ## A marked call
 
@@ -128,10 +129,6 @@ designator_stays sites b None d h = tt
 designator_stays sites b (Some c) d h = λ e. named_stays sites b d (h e)
 
 -- ## Expressions
-
-pub by_type : (P : Expr → Type 0) (t : Bool) (x y : Expr) → P x → P y → P (if t then x else y)
-by_type P true x y h k = h
-by_type P false x y h k = k
 
 -- what holds of the operand of an operator whose value isn't wanted, where the operand is unary: for it may be left out with the operator
 abbrev pub Operand : (P : Expr → Type 0) (sites : Sites) (b : ℕ) → Expr → Type 0

@@ -15,22 +15,22 @@ use Rattle.c_tree.specs.Operators.{Answer, convert, binary}
 use Rattle.c_tree.specs.Program.{IsProgram}
 use Rattle.c_tree.specs.Typed.{IsValue, IsPlace, AreMembers, AreArguments, IsCondition}
 use Rattle.c_values.specs.Memory.{Objects as Memory}
-use Rattle.c_meaning_laws.specs.Mentions.{Calls, Direct, Through, mentions, mentions_of_all}
-use Rattle.c_meaning_laws.specs.CallGraph.{is_marked}
+use Rattle.c_meaning.specs.Mentions.{Calls, Direct, Through, mentions, mentions_of_all}
+use Rattle.c_meaning.specs.CallGraph.{is_marked}
 use Rattle.c_meaning.specs.Meaning.{Frame, World, name_in, either, behind_of, decayed, operated, comparing, moving, updated, with_marks, wants, called, called_through, tested, eval, eval_each, eval_all}
 use Rattle.c_meaning.specs.Pointers.{callee, truth_value, load_place, store_place, member, difference, test}
 use Rattle.c_meaning.specs.Results.{State, with_memory, Result, Go, after, then_do, answered, remembered}
 use Rattle.c_meaning.specs.Runs.{no_marks}
-use Rattle.c_meaning_laws.specs.StoreTyping.{HasKind, IsPlaced, Grows, IsTypedFrame}
-use Rattle.c_meaning_laws.specs.TypedResults.{EndsTyped, Gives, GiveAll, StandsIn, IsTypedWorld}
-use Rattle.c_meaning_laws.proofs.Places.{grows_on, grows_none, carry, carry_given}
-use Rattle.c_meaning_laws.proofs.Steps.{scalars_of, load_place_right, update_scalar}
-use Rattle.c_meaning_laws.proofs.Keeps.{Holds, scalar_kind, stands_on, arguments_kind, called_ends, callee_ends, value_ends, where_ends, all_end, condition_tested}
-use Rattle.c_meaning_laws.proofs.Standing.{left_part, right_part}
-use Rattle.c_meaning_laws.specs.FurtherObjects.{DoesAlike}
-use Rattle.c_meaning_laws.proofs.FurtherSteps.{Sees, test_same, behind_of_same, load_place_same, moving_same, difference_same, comparing_same, operated_same, updated_same}
-use Rattle.c_meaning_laws.proofs.Together.{Shown, sees, store_place_remembers, answered_does, remembered_does, kind_shown, given_shown, place_shown}
-use Rattle.c_meaning_laws.proofs.Expressions.{right_whenever, any_whenever}
+use Rattle.c_meaning.specs.StoreTyping.{HasKind, IsPlaced, Grows, IsTypedFrame}
+use Rattle.c_meaning.specs.TypedResults.{EndsTyped, Gives, GiveAll, StandsIn, IsTypedWorld}
+use Rattle.c_meaning.proofs.Places.{grows_on, grows_none, carry, carry_given}
+use Rattle.c_meaning.proofs.Steps.{scalars_of, load_place_right, update_scalar}
+use Rattle.c_meaning.proofs.Keeps.{Holds, scalar_kind, stands_on, arguments_kind, called_ends, callee_ends, value_ends, where_ends, all_end, condition_tested}
+use Rattle.c_meaning.proofs.Standing.{left_part, right_part}
+use Rattle.c_meaning.specs.FurtherObjects.{DoesAlike}
+use Rattle.c_meaning.proofs.FurtherSteps.{Sees, test_same, behind_of_same, load_place_same, moving_same, difference_same, comparing_same, operated_same, updated_same}
+use Rattle.c_meaning.proofs.Together.{Shown, sees, store_place_remembers, answered_does, remembered_does, kind_shown, given_shown, place_shown}
+use Rattle.c_meaning.proofs.Expressions.{right_whenever, any_whenever}
 use Rattle.null_calls_laws.specs.MarkedRuns.{null_calls_of}
 use Rattle.null_calls_laws.proofs.TypedRuns.{null_calls_recorded}
 use Rattle.null_calls_laws.specs.Temporaries.{is_kept}

@@ -2,10 +2,9 @@
 use Rattle.std.proofs.Common.{◌≡◌, ℕ, suc, ◌+◌, Bool, true, false, List, [], ◌∷◌, ◌++◌, Contains, Option, Some, None, refl, sym, subst, ◌∙◌, arith, ap, ap₂, flat_map}
 use Rattle.c_tree.specs.Tree.{CType, function, CTypes, more_types, Function, Program}
 use Rattle.c_tree.specs.Tree as typed
-use Rattle.c_meaning_laws.specs.Mentions.{mentions_of_program}
-use Rattle.c_meaning_laws.specs.CallGraph.{callee_at}
+use Rattle.c_meaning.specs.Mentions.{mentions_of_program}
+use Rattle.c_meaning.specs.CallGraph.{callee_at}
 use Rattle.c_syntax.specs.Tree.{Ident, Storage, Spec, Declarator, MaybeInit, Parts, no_parts, more_parts, Decl, decl, Params, more_params, Stmt, BlockItems, Item, decl_item, function_item, Items, no_items, more_items}
-use Rattle.c_syntax.specs.Tree as syntax
 use Rattle.c_rules.specs.Checked.{Checked, fine, on, both, demand, met}
 use Rattle.c_rules.specs.Names.{Name}
 use Rattle.c_rules.specs.Scopes.{Env, a_local, inside, Before}
@@ -23,12 +22,13 @@ use Rattle.null_calls_laws.specs.InstrumentedStatements.{kept_of_block}
 use Rattle.null_calls_laws.specs.Spelled.{AreAmong}
 use Rattle.null_calls_laws.specs.CountedStatements.{BlockNamed}
 use Rattle.null_calls_laws.specs.StatementsBeside.{BlockTabled}
-use Rattle.c_rules_laws.specs.Lexical.{IsStmtLexical, AreItemsLexical, IsItemLexical, IsUnitLexical}
+use Rattle.c_rules_laws.specs.Lexical.{IsStmtLexical, IsItemLexical, IsUnitLexical}
 use Rattle.c_rules_laws.specs.RightScopes.{MeaningRight}
 use Rattle.c_rules_laws.proofs.Holding.{Each, held, first_fine, on_fine, demand_fine, Holds, both_hold, Any, anything, after_part as behind_any}
 use Rattle.c_rules_laws.proofs.FileScopes.{IsFileRight, Follows, follows_on}
 use Rattle.c_rules_laws.proofs.FileItems.{definition_step, form_step, tags_step, items_step}
 use Rattle.c_rules_laws.proofs.UnitScopes.{IsTable, scope_right}
+use Rattle.c_rules_laws.proofs.UnitItems.{body_lexical}
 use Rattle.c_rules_laws.proofs.UnitShape.{output_same}
 use Rattle.c_rules_laws.proofs.Definitions.{definition_fine}
 use Rattle.null_calls_laws.proofs.Lists.{is_later}
@@ -47,10 +47,6 @@ use Rattle.null_calls_laws.proofs.FileWritten.{IsWrittenFile, more_stand, file_t
 use Rattle.null_calls_laws.proofs.Aside.{names_in_body}
 use Rattle.c_tree.specs.Sites.{sites_of_function}
 use Rattle.c_rules_laws.proofs.Spans.{Spans, items_span}
-
-body_lexical : (body : Stmt) → IsStmtLexical body → AreItemsLexical (items_of_body body)
-body_lexical (syntax.block at is) h = h
-body_lexical body h = (h, tt)
 
 -- ## Items that define no function
 

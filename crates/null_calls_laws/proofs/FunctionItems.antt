@@ -2,13 +2,13 @@
 use Rattle.std.proofs.Common.{◌≡◌, ℕ, ◌+◌, ◌*◌, ◌≤◌, Bool, true, false, List, [], ◌∷◌, ◌++◌, map, length, Option, Some, refl, ap, sym, subst, ◌∙◌, arith, replicate, slice_get, suc, None}
 use Rattle.c_tree.specs.Tree.{CType, function, CTypes, list_of, Function, Program, Static}
 use Rattle.c_tree.specs.Tree as typed
-use Rattle.c_syntax.specs.Tree.{Ident, Storage, Spec, Declarator, Stmt, BlockItems, Item, function_item, Params, no_params, more_params}
-use Rattle.c_rules.specs.Checked.{fine, on, demand, met, parts_first, Checked}
+use Rattle.c_syntax.specs.Tree.{Ident, Storage, Spec, Declarator, Stmt, BlockItems, Item, function_item, Params, more_params}
+use Rattle.c_rules.specs.Checked.{fine, on, demand, met, parts_first}
 use Rattle.c_rules.specs.Names.{Name, is_among}
 use Rattle.c_rules.specs.Scopes.{Env, inside, layout_of, Before, a_local}
 use Rattle.c_rules.specs.Counts.{past}
-use Rattle.c_rules.specs.Declarators.{name_of, place_or, type_of_spec, parameter_of, with_name_demands, behind_parameter}
-use Rattle.c_rules.specs.Expressions.{type_declared, declared, parameters}
+use Rattle.c_rules.specs.Declarators.{name_of, place_or}
+use Rattle.c_rules.specs.Expressions.{type_declared}
 use Rattle.c_rules.specs.Tags.{tags_of_spec, tags_of_declarator, tags_of_stmt, tags_of_block, tags_of_item}
 use Rattle.c_rules.specs.Variables.{names_of_block, first_numbers, calls_of_block, Next, past_names}
 use Rattle.c_rules.specs.Blocks.{StatementTree, held_by_block}
@@ -24,15 +24,15 @@ use Rattle.null_calls_laws.specs.InstrumentedPrograms.{instrumented_function}
 use Rattle.null_calls_laws.specs.WithoutSites.{unsited_function}
 use Rattle.c_rules_laws.proofs.SitesOfStatements.{params_keep}
 use Rattle.null_calls_laws.specs.Spelled.{AreAmong}
-use Rattle.c_rules_laws.proofs.Leads.{first_fine, on_fine, fine_leads, Leads, same_leads, on_leads}
-use Rattle.c_rules_laws.proofs.Parts.{type_declared_leads, behind_beside}
+use Rattle.c_rules_laws.proofs.Leads.{first_fine, on_fine, fine_leads}
+use Rattle.c_rules_laws.proofs.Parts.{type_declared_leads}
 use Rattle.null_calls_laws.specs.Follow.{types_of}
 use Rattle.null_calls_laws.proofs.Numbers.{numbers_stay}
 use Rattle.null_calls_laws.proofs.Nodes.{both_gives}
 use Rattle.null_calls_laws.proofs.StatementTags.{tags_stay}
 use Rattle.null_calls_laws.proofs.StatementCounts.{blocks_stay}
 use Rattle.null_calls_laws.specs.FileScopes.{FilesBeside, at_site, HasNullCalls, files_beside}
-use Rattle.null_calls_laws.proofs.FileNames.{scopes_of, function_declared_leads, function_files, named_files}
+use Rattle.null_calls_laws.proofs.FileNames.{scopes_of, files_alike, function_declared_leads, function_files, named_files}
 use Rattle.null_calls_laws.proofs.Items.{tags_files, files_tags}
 use Rattle.c_rules_laws.proofs.Holding.{held}
 use Rattle.c_rules_laws.proofs.UnitFunctions.{ParamsFit, type_fits}
@@ -55,25 +55,13 @@ use Rattle.c_rules_laws.proofs.Places.{get_right}
 use Rattle.c_rules_laws.specs.Lexical.{AreItemsLexical}
 use Rattle.c_rules_laws.specs.RightScopes.{StringsIn}
 use Rattle.c_rules_laws.proofs.RightStatements.{StmtsRight, block_right}
-use Rattle.c_rules_laws.specs.TypedAlike.{More, TypedAlike, beside, AreUnreserved, MeanAlike}
+use Rattle.c_rules_laws.specs.TypedAlike.{More, AreUnreserved, MeanAlike}
 use Rattle.c_rules_laws.proofs.Names.{left, right}
-use Rattle.c_rules.proofs.ModeFunctions.{name_plain, PlainName, parameters_fine}
+use Rattle.c_rules.proofs.ModeFunctions.{PlainName, declared_names}
 pub use Rattle.c_rules.proofs.ModeFunctions.{PlainNames}
 
 pub inside_files : (e f : Env) → FilesBeside e f → FilesBeside (inside e) (inside f)
 inside_files e f (files_beside env w p q l) = files_beside (inside env) w p q (record { runs = l.runs; nulls = l.nulls; fresh = l.fresh; functions = l.functions; tags = l.tags })
-
-inside_beside : (e f : Env) → TypedAlike e f → TypedAlike (inside e) (inside f)
-inside_beside e f (beside env w p q) = beside (inside env) w p q
-
-names_plain : (e f : Env) → TypedAlike e f → (k : ℕ) (ps : Params) (ts : CTypes) → parameters e k ps ≡ fine ts → PlainNames ps
-names_plain e f (beside env w p m) k no_params ts g = tt
-names_plain e f (beside env w p m) k (more_params at s d ps) ts g =
-    let r : Checked CType = on (type_declared (left env) at s d) (parameter_of (place_or at d)) in
-    let q : Checked CType = on (type_declared (right env w) at s d) (parameter_of (place_or at d)) in
-    let l : Leads r q = on_leads (type_declared (left env) at s d) (type_declared (right env w) at s d) (parameter_of (place_or at d)) (parameter_of (place_or at d)) (type_declared_leads _ _ (beside env w p m) at s d) (λ t _. same_leads (parameter_of (place_or at d) t)) in
-    let h = first_fine (with_name_demands (left env) (name_of d) r) (parameters (behind_parameter (left env) k (name_of d) r) k ps) (λ t us. fine (typed.more_types t us)) ts g in
-    (name_plain env (name_of d) r h.0 h.2, names_plain (behind_parameter (left env) k (name_of d) r) (behind_parameter (right env w) k (name_of d) q) (behind_beside env w p m k (name_of d) r q h.0 l h.2) k ps h.1 h.3)
 
 parameter_files : (env : Env) (w : More) (p : AreUnreserved env.names) (q : MeanAlike env.names w.names) (l : HasNullCalls env w) (k : ℕ) (n : Option Ident) (t : CType) → PlainName n → FilesBeside (with_parameter (left env) k n t) (with_parameter (right env w) k n t)
 parameter_files env w p q l k None t u = files_beside env w p q l
@@ -83,12 +71,6 @@ parameters_files : (e f : Env) → FilesBeside e f → (k : ℕ) (ps : Params) (
 parameters_files e f (files_beside env w p q l) k (more_params at s d ps) (typed.more_types t ts) u =
     parameters_files (with_parameter (left env) k (name_of d) t) (with_parameter (right env w) k (name_of d) t) (parameter_files env w p q l k (name_of d) t u.0) (suc k) ps ts u.1
 parameters_files e f w k ps ts u = w
-
-pub declared_names : (e f : Env) → FilesBeside e f → (at : ℕ) (s : Spec) (d : Declarator) (u : CType) → declares_function d ≡ true → type_declared e at s d ≡ fine u → PlainNames (parameters_of d)
-declared_names e f w at s d u h g =
-    let k = on_fine (type_of_spec e at s) (λ t. declared e d t) u g in
-    let l = parameters_fine e d k.0 u h k.2 in
-    names_plain (inside e) (inside f) (inside_beside e f (scopes_of e f w)) 0 (parameters_of d) l.0 l.1
 
 pub body_files : (e f : Env) → FilesBeside e f → (d : Declarator) (ts : CTypes) → PlainNames (parameters_of d) → FilesBeside (body_env e d ts) (body_env f d ts)
 body_files e f w d ts u = parameters_files (inside e) (inside f) (inside_files e f w) 0 (parameters_of d) ts u
@@ -191,7 +173,7 @@ module _ (p : Program) (enums tags stood : List Name) (e f : Env) (w : FilesBesi
       let q : StatementTree typed.Stmts = k.1 in
       let us : List CType = types_of temporaries_here in
       let goes : BodyGoes p (sites_of p) tags (body_env left_env d ts) (body_env right_env d ts) b n at count_here items_left around q =
-      body_goes p (sites_of p) enums tags stood (body_env left_env d ts) (body_env right_env d ts) (body_files left_env right_env files d ts (declared_names e f w at s d (function t ts) is_function typed_left)) (subst (HasFunctions p) (sym whole_here) g) b n at count_here items_left facts few around q k.3 in
+      body_goes p (sites_of p) enums tags stood (body_env left_env d ts) (body_env right_env d ts) (body_files left_env right_env files d ts (declared_names e f (files_alike e f w) at s d (function t ts) is_function typed_left)) (subst (HasFunctions p) (sym whole_here) g) b n at count_here items_left facts few around q k.3 in
       let laid = laid_right p x t ts first_here us goes.tree left_env right_env files q (temporaries_few (layout_of left_env) enums tags stood b.sites (calls_of_block items_left) temporaries_here facts.temporaries low) left k.4 in
       record {
         right = right_function p x t ts first_here us goes.tree q;

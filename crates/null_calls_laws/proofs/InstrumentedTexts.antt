@@ -11,7 +11,7 @@ use Rattle.c_rules.specs.Units.{IsTyped}
 use Rattle.c_meaning.specs.NullCalls.{DifferInNullCalls}
 use Rattle.c_meaning.specs.Runs.{Run, run}
 use Rattle.c_meaning.specs.WithoutNullCalls.{MakesNoNullCall}
-use Rattle.c_meaning_laws.specs.MarkedRuns.{marked_run, MarkedRunsDifferInNullCalls, ErasedMarkedRunsAreRuns}
+use Rattle.c_meaning.specs.MarkedRuns.{marked_run, MarkedRunsDifferInNullCalls, ErasedMarkedRunsAreRuns}
 use Rattle.null_calls_laws.specs.IsWithNullCalls.{IsWithNullCalls}
 use Rattle.null_calls_laws.specs.PlaceLaws.{UnitsAreTypedAlike}
 use Rattle.null_calls_laws.specs.InstrumentedTexts.{DoesAsMarked}

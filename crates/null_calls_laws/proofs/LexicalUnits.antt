@@ -1,7 +1,7 @@
 -- Instrumented units.
 use Rattle.std.proofs.Common.{ℕ, ◌+◌, List, [], ◌∷◌}
 use Rattle.c_syntax.specs.Tree.{function_item, Item, Items, no_items, more_items}
-use Rattle.c_syntax.specs.Tree.{Stmt, block, BlockItems}
+use Rattle.c_syntax.specs.Tree.{BlockItems}
 use Rattle.c_rules.specs.Functions.{items_of_body}
 use Rattle.c_rules.specs.Names.{Name}
 use Rattle.c_rules.specs.Scopes.{nothing_before}
@@ -13,16 +13,13 @@ use Rattle.null_calls_laws.specs.Temporaries.{Temporary, declared_before}
 use Rattle.null_calls_laws.specs.Instrumented as units
 use Rattle.null_calls_laws.specs.Instrumented.{calls_of_item}
 use Rattle.null_calls_laws.specs.InstrumentedStatements.{items_of_block, kept_of_block}
-use Rattle.null_calls_laws.specs.Lexical.{IsStmtLexical, AreItemsLexical, IsItemLexical, IsUnitLexical}
+use Rattle.null_calls_laws.specs.Lexical.{AreItemsLexical, IsItemLexical, IsUnitLexical}
+use Rattle.c_rules_laws.proofs.UnitItems.{body_lexical}
 use Rattle.null_calls_laws.proofs.WholeUnits.{unit_program}
 use Rattle.null_calls_laws.proofs.Sites.{sites_fit}
 use Rattle.null_calls_laws.proofs.Writable.{FitsWhere}
 use Rattle.null_calls_laws.specs.LexicalTexts.{InstrumentedUnitsAreLexical}
 use Rattle.null_calls_laws.proofs.Instrumented.{block_lexical}
-
-body_lexical : (body : Stmt) → IsStmtLexical body → AreItemsLexical (items_of_body body)
-body_lexical (block at is) h = h
-body_lexical body h = (h, tt)
 
 -- temporaries have no initialisers
 declared_lexical : (tags : List Name) (at : ℕ) (xs : List Temporary) (is : BlockItems) → AreItemsLexical is → AreItemsLexical (declared_before tags at xs is)

@@ -50,7 +50,6 @@ pub mod CallsOfStatements
 pub mod Tables
 pub mod TypesOfExpressions
 pub mod FileNames
-pub mod ItemInitialisers
 pub mod Items
 pub mod Silent
 pub mod FunctionBodies
@@ -86,12 +85,12 @@ pub mod NoAlarmInstrumented
 pub mod Scalars
 pub mod StatementRuns
 pub mod Worlds
-pub use Rattle.c_meaning_laws.proofs.FunctionPlaces
-pub use Rattle.c_meaning_laws.proofs.Lists
-pub use Rattle.c_meaning_laws.proofs.Marking
-pub use Rattle.c_meaning_laws.proofs.MonitorLemmas
-pub use Rattle.c_meaning_laws.proofs.NoAlarm
-pub use Rattle.c_meaning_laws.proofs.TypedRuns
+pub use Rattle.c_meaning.proofs.FunctionPlaces
+pub use Rattle.c_meaning.proofs.Lists
+pub use Rattle.c_meaning.proofs.Marking
+pub use Rattle.c_meaning.proofs.MonitorLemmas
+pub use Rattle.c_meaning.proofs.NoAlarm
+pub use Rattle.c_meaning.proofs.TypedRuns
 pub use Rattle.c_rules_laws.proofs.Fine
 pub use Rattle.c_rules_laws.proofs.Leads
 pub use Rattle.c_rules_laws.proofs.Names

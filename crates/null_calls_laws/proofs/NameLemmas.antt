@@ -6,7 +6,7 @@ use Rattle.sys_table.specs.Table.{table}
 use Rattle.c_rules.specs.Names.{Name, is_digit, are_digits, is_number, is_rest_of_pair, is_pair}
 use Rattle.null_calls_laws.specs.Temporaries.{digits_within, digits_of}
 use Rattle.null_calls_laws.specs.TemporaryNames.{NamesAreFree, NamesDiffer}
-use Rattle.c_meaning_laws.proofs.Members.{and_both, and_left, and_right, below}
+use Rattle.c_meaning.proofs.Members.{and_both, and_left, and_right, below}
 
 -- ## Digits are digits
 

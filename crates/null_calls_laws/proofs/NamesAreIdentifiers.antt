@@ -6,7 +6,7 @@ use Rattle.std.proofs.lemmas.List.Elements.{All-nil, All-cons, All-append, All-f
 use Rattle.dm_base.specs.Name.{IsName, keywords}
 use Rattle.c_lexer.specs.Words.{IsWordByte}
 use Rattle.null_calls_laws.specs.Temporaries.{digits_within, digits_of, pre_name, post_name, designator_name, argument_name, result_name}
-use Rattle.c_meaning_laws.proofs.Lists.{below, if_has}
+use Rattle.c_meaning.proofs.Lists.{below, if_has}
 
 -- ## No keyword begins with two underscores
 

@@ -1,7 +1,7 @@
 -- No false alarm on a program with null calls round its marked calls.
 use Rattle.std.proofs.Common.{sym, subst}
-use Rattle.c_meaning_laws.specs.ProgramLanguages.{Dyck}
-use Rattle.c_meaning_laws.specs.GraphOfProgram.{graph_of_program}
+use Rattle.c_meaning.specs.ProgramLanguages.{Dyck}
+use Rattle.c_meaning.specs.GraphOfProgram.{graph_of_program}
 use Rattle.null_calls_laws.specs.Monitors.{IsAcceptedByAll}
 use Rattle.null_calls_laws.proofs.MonitorLemmas.{accept_marked_runs}
 use Rattle.null_calls_laws.proofs.NoAlarm.{marked_runs_raise_none}

@@ -16,8 +16,8 @@ use Rattle.c_tree.specs.Functions.{defined}
 use Rattle.c_tree.specs.Typed.{IsValue, IsPlace, AreMembers}
 use Rattle.c_values.specs.Answers.{gives, and_then}
 use Rattle.c_values.specs.Memory.{there, element, cell_value, writable, set_cell, changed, declared}
-use Rattle.c_meaning_laws.specs.Mentions.{Direct, Through}
-use Rattle.c_meaning_laws.specs.CallGraph.{is_marked}
+use Rattle.c_meaning.specs.Mentions.{Direct, Through}
+use Rattle.c_meaning.specs.CallGraph.{is_marked}
 use Rattle.c_meaning.specs.Meaning.{Frame, World, name_in, wants, call_undefined, called, eval_all, fresh, initialise, exec_all, declared_by, declared_in, is_case, is_default, group_with, count_groups, selected}
 use Rattle.c_meaning.specs.Pointers.{store_place}
 use Rattle.c_meaning.specs.Results.{State, with_memory, Go, after, then_do, answered, remembered, Exit, on_exit}

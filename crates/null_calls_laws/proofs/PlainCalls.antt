@@ -4,8 +4,8 @@ use Rattle.std.proofs.lemmas.Bool.Decides.{Decides-ltb, Decides-eqb}
 use Rattle.c_tree.specs.Tree.{CType, pointer, function, CTypes, no_types, more_types, type_of, Program}
 use Rattle.c_tree.specs.Tree as typed
 use Rattle.c_tree.specs.Functions.{called_type}
-use Rattle.c_meaning_laws.specs.Mentions.{Direct, Through}
-use Rattle.c_meaning_laws.specs.CallGraph.{is_marked}
+use Rattle.c_meaning.specs.Mentions.{Direct, Through}
+use Rattle.c_meaning.specs.CallGraph.{is_marked}
 use Rattle.c_syntax.specs.Tree.{Expr, a_name, call, Exprs, no_exprs, more_exprs}
 use Rattle.c_rules.specs.Checked.{Checked, fine, faulty, demand, on, both, all_three}
 use Rattle.c_rules.specs.Names.{Name}

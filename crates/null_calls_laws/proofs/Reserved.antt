@@ -9,6 +9,7 @@ use Rattle.c_rules.specs.Counts.{calls}
 use Rattle.null_calls_laws.specs.MarkedCalls.{Called, Sites}
 use Rattle.null_calls_laws.specs.Temporaries.{result_name, is_kept, Temporary, designator_kept, arguments_kept, result_kept, temporaries_where}
 use Rattle.null_calls_laws.specs.InstrumentedExpressions.{is_void_type, is_address_of_indirection, kept, kept_of_arguments, kept_of_members}
+use Rattle.c_rules.proofs.Below.{either_has as by_type}
 use Rattle.null_calls_laws.specs.Tabled.{AreFound}
 use Rattle.null_calls_laws.specs.Standing.{ReservedMeanAlike, TemporariesStay}
 
@@ -46,10 +47,6 @@ call_reserved site wanted None = tt
 call_reserved site wanted (Some c) = reserved_both _ _ (designator_reserved site c.pointer_type) (reserved_both _ _ (arguments_reserved site 0 c.parameters) (result_reserved site wanted c.returns))
 
 -- ## Expressions
-
-by_type : (P : List Temporary → Type 0) (t : Bool) (x y : List Temporary) → P x → P y → P (if t then x else y)
-by_type P true x y h k = h
-by_type P false x y h k = k
 
 -- the operand of an operator whose value isn't wanted, where the operand is unary: it may be left out with the operator
 abbrev Operand : (sites : Sites) (b : ℕ) → Expr → Type 0

@@ -13,11 +13,11 @@ use Rattle.c_tree.specs.Functions.{defined, sys_types, null_types, type_of_defin
 use Rattle.c_tree.specs.Operands.{IsScalar, IsResult}
 use Rattle.c_tree.specs.Program.{IsFunction, IsProgram}
 use Rattle.c_tree.specs.Typed.{IsValue, IsPlace, AreMembers, AreArguments, IsTest, IsStep, AreInits, AreFirst, IsStmt, AreStmts, AreGroups}
-use Rattle.c_meaning_laws.specs.Mentions.{Direct, Through}
-use Rattle.c_meaning_laws.specs.CallGraph.{callees, reaches, is_marked}
-use Rattle.c_meaning_laws.proofs.Places.{get_left}
-use Rattle.c_meaning_laws.proofs.Steps.{scalars_of}
-use Rattle.c_meaning_laws.proofs.Keeps.{defined_at, undefined_at}
+use Rattle.c_meaning.specs.Mentions.{Direct, Through}
+use Rattle.c_meaning.specs.CallGraph.{callees, reaches, is_marked}
+use Rattle.c_meaning.proofs.Places.{get_left}
+use Rattle.c_meaning.proofs.Steps.{scalars_of}
+use Rattle.c_meaning.proofs.Keeps.{defined_at, undefined_at}
 use Rattle.null_calls_laws.proofs.Lists.{below, not_below, if_has, got_in, one_passes}
 use Rattle.null_calls_laws.proofs.FunctionPlaces.{through_type}
 use Rattle.null_calls_laws.specs.Temporaries.{is_kept}

@@ -1,13 +1,11 @@
 -- Scopes that stand beside each other.
-use Rattle.std.proofs.Common.{◌≡◌, Bool, true, false, cond, if◌then◌else◌, nat_eq, List, [], ◌∷◌, ◌++◌, Some, None, codes, refl, ap, sym, subst, ◌∙◌}
+use Rattle.std.proofs.Common.{◌≡◌, Bool, true, false, cond, if◌then◌else◌, nat_eq, List, [], ◌∷◌, ◌++◌, Some, None, codes, refl, ap, ◌∙◌}
 use Rattle.std.specs.Prelude.{bytes_eq, is_some}
-use Rattle.std.proofs.lemmas.Slice.Eq.{bytes_eq-Decides}
 use Rattle.c_tree.specs.Tree.{Program}
 use Rattle.c_rules.specs.Names.{Name, after_front, begins_with, is_reserved, is_added}
 use Rattle.c_rules.specs.Scopes.{Env, Binding, Meaning, lookup, with_name, inside}
-use Rattle.null_calls_laws.specs.Temporaries.{pre_name, post_name}
 use Rattle.null_calls_laws.specs.TypedAlike.{More, plain_scope, instrumented_scope, AreUnreserved, MeanAlike}
-use Rattle.null_calls_laws.specs.Tabled.{IsNullCall}
+use Rattle.null_calls_laws.proofs.FileNames.{other_name, nulls_past}
 use Rattle.null_calls_laws.specs.InstrumentedCalls.{NullCallsStand}
 use Rattle.null_calls_laws.specs.Standing.{ReservedMeanAlike, StandBeside, stand_beside, BlocksStandBeside}
 
@@ -17,26 +15,15 @@ blocks_stand_beside p names e f (stand_beside env w u m n r) =
 
 -- ## A name that isn't reserved
 
--- is no reserved one
-other_name : (x y : Name) → is_reserved x ≡ false → is_reserved y ≡ true → bytes_eq x y ≡ false
-other_name x y u r = by_test (bytes_eq x y) refl
-  where
-    by_test : (t : Bool) → bytes_eq x y ≡ t → t ≡ false
-    by_test true e = (let same : x ≡ y = (bytes_eq-Decides x y).0 e in let k : is_reserved y ≡ false = subst (λ z. is_reserved z ≡ false) same u in let no : false ≡ true = sym k ∙ r in cc)
-    by_test false e = refl
-
 past_name : (c : Binding) (ns : List Binding) (y : Name) → is_reserved c.name ≡ false → is_reserved y ≡ true → lookup (c ∷ ns) y ≡ lookup ns y
 past_name c ns y u r = ap (λ t. cond t (Some c) (lookup ns y)) (other_name c.name y u r)
-
-null_stays : (c : Binding) (ns : List Binding) (y : Name) → is_reserved c.name ≡ false → is_reserved y ≡ true → IsNullCall ns y → IsNullCall (c ∷ ns) y
-null_stays c ns y u r h = (h.0, h.1, past_name c ns y u r ∙ h.2, h.3)
 
 -- behind the declaration of such a name with the same meaning in both
 pub named_stand : (p : Program) (names : List Binding) (env : Env) (w : More) → AreUnreserved env.names → MeanAlike env.names w.names → NullCallsStand p env w → ReservedMeanAlike names w.names → (x : Name) (n : Meaning) → is_reserved x ≡ false → StandBeside p names (with_name (plain_scope env) x n) (with_name (instrumented_scope env w) x n)
 named_stand p names env w u m s r x n h =
     let c : Binding = record { name = x; depth = env.depth; means = n } in
     stand_beside (with_name env x n) (record w { names = c ∷ w.names }) (h, u) (λ y e. ap (λ o. cond (bytes_eq x y) (Some c) o) (m y e))
-    (record { runs = s.runs; named = record { before = null_stays c w.names pre_name h refl s.named.before; behind = null_stays c w.names post_name h refl s.named.behind }; functions = s.functions; pre_free = s.pre_free; post_free = s.post_free })
+    (record { runs = s.runs; named = nulls_past c w.names h s.named; functions = s.functions; pre_free = s.pre_free; post_free = s.post_free })
     (λ y e. past_name c w.names y h e ∙ r y e)
 
 -- isn't one of the instrumenter's

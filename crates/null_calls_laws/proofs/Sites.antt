@@ -4,7 +4,7 @@ use Rattle.std.proofs.lemmas.Bool.{cases_lt}
 use Rattle.c_tree.specs.Tree.{Program}
 use Rattle.c_tree.specs.Program.{IsProgram}
 use Rattle.null_calls_laws.specs.MarkedCalls.{Called, marked_of, sites_of}
-use Rattle.call_graph.proofs.SitesLemmas.{no_site}
+use Rattle.flow_graph.proofs.SitesLemmas.{no_site}
 use Rattle.null_calls_laws.proofs.Writable.{FitsWhere}
 
 fits : (o : Option Called) (s : ℕ) → s < 4294967296 → FitsWhere o s

@@ -10,18 +10,18 @@ use Rattle.c_tree.specs.Program.{IsProgram}
 use Rattle.c_tree.specs.Typed.{IsValue, IsTest, IsStep, AreInits, IsDeclare, IsStmt, AreStmts, AreGroups}
 use Rattle.c_values.specs.Memory.{declared}
 use Rattle.c_values.specs.Memory.{Objects as Memory}
-use Rattle.c_meaning_laws.specs.Mentions.{mentions, mentions_of_maybe, mentions_of_inits, mentions_of_stmt, mentions_of_stmts, mentions_of_groups}
+use Rattle.c_meaning.specs.Mentions.{mentions, mentions_of_maybe, mentions_of_inits, mentions_of_stmt, mentions_of_stmts, mentions_of_groups}
 use Rattle.c_meaning.specs.Meaning.{Frame, Loop, World, name_in, initialise, fresh, declared_by, declared_in, without, leaving, selected, eval, exec, exec_all, exec_from}
 use Rattle.c_meaning.specs.Pointers.{place}
 use Rattle.c_meaning.specs.Results.{State, with_memory, Result, Go, Stop, then_do, Exit, on, returned, out_of_switch}
 use Rattle.c_meaning.specs.Runs.{no_marks}
-use Rattle.c_meaning_laws.specs.StoreTyping.{Grows, TellsAlike, IsTypedFrame}
-use Rattle.c_meaning_laws.specs.TypedResults.{IsExit, StandsIn, StandsRound, IsTypedWorld}
-use Rattle.c_meaning_laws.proofs.Places.{flat_scalar, grows_on}
-use Rattle.c_meaning_laws.proofs.Keeps.{scalar_kind, cell_ends, fresh_ends, first_ends, exec_ends, stmts_end, groups_end}
-use Rattle.c_meaning_laws.proofs.Standing.{left_part, right_part, stands_empty}
-use Rattle.c_meaning_laws.proofs.Together.{Hidden, beside_changed, stay_changed, told_shown}
-use Rattle.c_meaning_laws.proofs.Statements.{AreShown, shown_both, without_beside, without_stays}
+use Rattle.c_meaning.specs.StoreTyping.{Grows, TellsAlike, IsTypedFrame}
+use Rattle.c_meaning.specs.TypedResults.{IsExit, StandsIn, StandsRound, IsTypedWorld}
+use Rattle.c_meaning.proofs.Places.{flat_scalar, grows_on}
+use Rattle.c_meaning.proofs.Keeps.{scalar_kind, cell_ends, fresh_ends, first_ends, exec_ends, stmts_end, groups_end}
+use Rattle.c_meaning.proofs.Standing.{left_part, right_part, stands_empty}
+use Rattle.c_meaning.proofs.Together.{Hidden, beside_changed, stay_changed, told_shown}
+use Rattle.c_meaning.proofs.Statements.{AreShown, shown_both, without_beside, without_stays}
 use Rattle.null_calls_laws.specs.MarkedRuns.{null_calls_of}
 use Rattle.null_calls_laws.proofs.TypedRuns.{null_calls_recorded}
 use Rattle.null_calls_laws.specs.InstrumentedPrograms.{kept, kept_of_maybe, kept_of_inits, kept_of_stmt, kept_of_stmts, kept_of_groups, expr, maybe, inits, stmt, stmts, groups, instrumented_program}

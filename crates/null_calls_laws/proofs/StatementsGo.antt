@@ -1,21 +1,17 @@
 -- Statements of an instrumented unit go: the recursion on the syntax.
 use Rattle.std.proofs.Common.{◌≡◌, ℕ, ◌+◌, Bool, true, false, List, [], ◌∷◌, ◌++◌, length, append_assoc, append-nil, refl, ap, sym, subst, ◌∙◌, arith}
 use Rattle.c_tree.specs.declared.value.IntType.{IntType}
-use Rattle.c_tree.specs.declared.tree.TLabel.TheVariants.{Case, Default}
-use Rattle.c_tree.specs.Operators.{value_of}
 use Rattle.c_tree.specs.Tree.{CType, Program}
 use Rattle.c_tree.specs.Tree as typed
-use Rattle.c_syntax.specs.Tree.{Expr, Maybe, absent, there, First, Labels, no_labels, case_label, default_label}
+use Rattle.c_syntax.specs.Tree.{Expr, Maybe, absent, there, First}
 use Rattle.c_syntax.specs.Tree.{Stmt, block, empty, evaluate, only_if, if_else, while_loop, do_loop, for_loop, switch_on, break_off, continue_on, return_from}
 use Rattle.c_syntax.specs.Tree.{BlockItems, no_block_items, block_decl, block_stmt, Stmts, no_stmts, more_stmts, Groups, no_groups, more_groups}
-use Rattle.c_rules.specs.Constants.{number_of}
-use Rattle.c_rules.specs.Checked.{Checked, fine, on, both, all_three, beside, gives}
+use Rattle.c_rules.specs.Checked.{Checked, fine, both, all_three, beside, gives}
 use Rattle.c_rules.specs.Names.{Name}
-use Rattle.c_rules.specs.Scopes.{Env, Binding, inside, in_context, folded, Before, nothing_before}
-use Rattle.c_rules.specs.Counts.{place_of, calls, calls_of_maybe, string_cells, past, after, after_maybe}
+use Rattle.c_rules.specs.Scopes.{Env, Binding, inside, Before}
+use Rattle.c_rules.specs.Counts.{calls, calls_of_maybe, string_cells, past, after, after_maybe}
 use Rattle.c_rules.specs.TypedExpression.{tree_of}
-use Rattle.c_rules.specs.Declarators.{constant_value}
-use Rattle.c_rules.specs.Expressions.{value, folded_value}
+use Rattle.c_rules.specs.Expressions.{value}
 use Rattle.c_rules.specs.Variables.{Next, past_name, past_names, names_of_first, names_of_stmt, names_of_stmts, calls_of_decl, calls_of_first, calls_of_stmt, calls_of_stmts}
 use Rattle.c_rules.specs.Blocks.{behind_first, after_first, after_stmt, after_stmts, with_tree}
 use Rattle.c_rules.specs.Statements.{Around, in_loop, in_switch, condition_at, test_of, step_of, switched, label_type, labels_of, returned, stmt, items_of_block, stmts, groups_of_switch}
@@ -23,9 +19,11 @@ use Rattle.null_calls_laws.specs.MarkedCalls.{Sites}
 use Rattle.null_calls_laws.specs.Temporaries.{Temporary}
 use Rattle.null_calls_laws.specs.InstrumentedExpressions.{expr, maybe, kept, kept_of_maybe}
 use Rattle.null_calls_laws.specs.InstrumentedStatements as with_null_calls
-use Rattle.null_calls_laws.specs.TypedAlike.{TypedAlike, beside as scopes_beside}
-use Rattle.null_calls_laws.proofs.Leads.{Leads, same_leads, fine_leads, on_leads, both_leads, gives_leads, first_fine, on_fine}
-use Rattle.null_calls_laws.proofs.Parts.{value_leads}
+use Rattle.null_calls_laws.specs.TypedAlike.{beside as scopes_beside}
+use Rattle.null_calls_laws.proofs.Leads.{fine_leads, first_fine, on_fine}
+use Rattle.null_calls_laws.proofs.Names.{alike_of}
+use Rattle.c_rules.proofs.Modes.{Alike}
+use Rattle.c_rules.proofs.ModeStatements.{labels_lead}
 use Rattle.null_calls_laws.specs.Counts.{AreNamed, Near}
 use Rattle.null_calls_laws.specs.CountedStatements.{MaybeNamed, StmtNamed, BlockNamed, StmtsNamed, GroupsNamed}
 use Rattle.null_calls_laws.proofs.ExpressionCounts.{places_near}
@@ -75,18 +73,8 @@ names_past : (n : Next) (xs ys : List Name) → past_names n (xs ++ ys) ≡ past
 names_past n [] ys = refl
 names_past n (x ∷ xs) ys = names_past (past_name n x) xs ys
 
--- ## Labels (6.8.4.2)
-
-labels_lead : (e f : Env) → TypedAlike e f → (i : IntType) (ls : Labels) → Leads (labels_of e i ls) (labels_of f i ls)
-labels_lead e f w i no_labels = (refl, tt)
-labels_lead e f (scopes_beside env w p m) i (case_label at x ls) =
-    both_leads (on (folded_value e x) (constant_value (place_of x))) (on (folded_value f x) (constant_value (place_of x))) (labels_of e i ls) (labels_of f i ls) (λ v vs. fine (Case (value_of i (number_of v)) ∷ vs)) (λ v vs. fine (Case (value_of i (number_of v)) ∷ vs))
-    (on_leads (folded_value e x) (folded_value f x) (constant_value (place_of x)) (constant_value (place_of x)) (value_leads (in_context e folded) (in_context f folded) (scopes_beside (in_context env folded) w p m) nothing_before x) (λ g _. same_leads (constant_value (place_of x) g)))
-    (λ _ _. labels_lead e f (scopes_beside env w p m) i ls) (λ v vs. (refl, tt))
-labels_lead e f w i (default_label at ls) = gives_leads (labels_of e i ls) (labels_of f i ls) (λ vs. Default ∷ vs) (labels_lead e f w i ls)
-
-stand_scopes : (p : Program) (names : List Binding) (e f : Env) → StandBeside p names e f → TypedAlike e f
-stand_scopes p names e f (stand_beside env w plain alike stand same) = scopes_beside env w plain alike
+stand_scopes : (p : Program) (names : List Binding) (e f : Env) → StandBeside p names e f → Alike e f
+stand_scopes p names e f (stand_beside env w plain alike stand same) = alike_of _ _ (scopes_beside env w plain alike)
 
 -- ## Expressions of statements
 

@@ -3,10 +3,10 @@ use Rattle.std.proofs.Common.{◌≡◌, ℕ, List, [], ◌∷◌, ◌++◌, fla
 use Rattle.c_tree.specs.Tree.{Function, Program}
 use Rattle.c_tree.specs.Program.{IsProgram}
 use Rattle.c_tree.proofs.GatheredLemmas.{Becomes, stmt_becomes}
-use Rattle.c_meaning_laws.specs.Mentions.{Callee, Direct, Through, Mention, Named, Calls, all_mentions, mentions_of_function, mentions_of_static, mentions_of_program}
-use Rattle.c_meaning_laws.specs.CallGraph.{callee_at}
+use Rattle.c_meaning.specs.Mentions.{Callee, Direct, Through, Mention, Named, Calls, all_mentions, mentions_of_function, mentions_of_static, mentions_of_program}
+use Rattle.c_meaning.specs.CallGraph.{callee_at}
 use Rattle.null_calls_laws.proofs.Lists.{is_later, cases, none_in}
-use Rattle.c_meaning_laws.proofs.SitesSaid.{callee_found}
+use Rattle.c_meaning.proofs.SitesSaid.{callee_found}
 use Rattle.null_calls_laws.specs.CallsIn.{all_calls, calls_in_stmt}
 
 abbrev pub Table : Type 0

@@ -1,10 +1,10 @@
 -- Units written as terms, for trials; their places are all 0.
 use Rattle.std.proofs.Common.{ℕ, false, List, [], ◌∷◌, codes}
 use Rattle.c_lexer.specs.declared.punctuator.TheConstants as punctuators
-use Rattle.c_rules.specs.Tree.{Ident, no_storage, Spec, Expr, a_name, an_int, comma, cast, call, unary, index, binary, Infix, and, operator, assign, conditional, member, arrow, Exprs, no_exprs, more_exprs, Maybe, absent, there}
-use Rattle.c_rules.specs.Tree.{TypeName, type_name, Declarator, nothing, named, pointer, function, array, Params, no_params, more_params, Init, one, MaybeInit, no_init, an_init, Parts, no_parts, more_parts, Decl, decl}
-use Rattle.c_rules.specs.Tree.{First, first_expr, no_labels, case_label, default_label, Stmt, block, empty, evaluate, while_loop, for_loop, switch_on, break_off, continue_on, return_from, BlockItems, no_block_items, block_decl, block_stmt, Stmts, no_stmts, more_stmts, Groups, no_groups, more_groups}
-use Rattle.c_rules.specs.Tree.{Members, no_members, more_members, no_declarators, more_declarators, Item, struct_item, decl_item, function_item, Items, no_items, more_items}
+use Rattle.c_rules.specs.Tree.{Ident, no_storage, Spec, Expr, a_name, an_int, comma, cast, call, unary, binary, and, operator, assign, conditional, member, arrow, Exprs, no_exprs, more_exprs, there}
+use Rattle.c_rules.specs.Tree.{type_name, Declarator, nothing, named, pointer, function, Params, no_params, more_params, one, MaybeInit, no_init, an_init, no_parts, more_parts, Decl, decl}
+use Rattle.c_rules.specs.Tree.{first_expr, no_labels, case_label, default_label, Stmt, block, empty, evaluate, while_loop, for_loop, switch_on, break_off, continue_on, return_from, BlockItems, no_block_items, block_decl, block_stmt, Stmts, no_stmts, more_stmts, no_groups, more_groups}
+use Rattle.c_rules.specs.Tree.{no_members, more_members, no_declarators, more_declarators, Item, struct_item, decl_item, function_item, Items, no_items, more_items}
 use Rattle.c_rules.specs.Tree as syntax
 
 abbrev pub ident : List ℕ → Ident

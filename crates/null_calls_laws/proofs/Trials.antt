@@ -4,17 +4,17 @@ use Rattle.std.specs.Int.{int_wrap}
 use Rattle.dm_base.specs.declared.event.Event.TheVariants.{Pre, Post}
 use Rattle.dm_base.specs.declared.mode.Mode.TheVariants.{Plain, Instrumented}
 use Rattle.sys_table.specs.Table.{table}
-use Rattle.c_meaning_laws.specs.Tree.{Program}
-use Rattle.c_meaning_laws.specs.Functions.{sys_types}
+use Rattle.c_meaning.specs.Tree.{Program}
+use Rattle.c_meaning.specs.Functions.{sys_types}
 use Rattle.c_rules.specs.Tree.{an_int, Expr, call, more_exprs, no_exprs, a_name, block_decl, no_init, unsigned_int, void, nothing, Items}
 use Rattle.c_rules.specs.Tree as syntax
 use Rattle.c_rules.specs.Checked.{Checked, fine, faulty}
 use Rattle.c_rules.specs.Units.{checked}
-use Rattle.c_meaning_laws.specs.Runs.{Run, run}
-use Rattle.c_meaning_laws.proofs.RunTrials.{the_record, the_call, ended}
+use Rattle.c_meaning.specs.Runs.{Run, run}
+use Rattle.c_meaning.proofs.RunTrials.{the_record, the_call, ended}
 use Rattle.null_calls_laws.specs.Instrumented.{instrumented_unit}
 use Rattle.null_calls_laws.specs.IsWithNullCalls.{IsWithNullCalls}
-use Rattle.c_meaning_laws.specs.MarkedRuns.{marked_run}
+use Rattle.c_meaning.specs.MarkedRuns.{marked_run}
 use Rattle.null_calls_laws.proofs.TrialUnits.{two_calls, every_place, items_of, prototype, of_params, declared, param, getpid_declared, define, of_int, of_void, block_of, returns, name, f_that_asks, a_decl, plus, commas, becomes, call_of, int}
 use Rattle.c_rules.proofs.NoProgram.{program_or_none}
 

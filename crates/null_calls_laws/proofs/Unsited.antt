@@ -4,20 +4,20 @@ use Rattle.std.specs.List.{list_any}
 use Rattle.std.proofs.lemmas.List.{length-map}
 use Rattle.std.proofs.lemmas.Option.{slice_get-map}
 use Rattle.sys_table.specs.declared.sys_result.SysResult.{SysResult}
-use Rattle.c_meaning_laws.specs.Value.{Value}
-use Rattle.c_meaning_laws.specs.Value.TheVariants.{Indeterminate}
-use Rattle.c_meaning_laws.specs.TLabel.{TLabel}
-use Rattle.c_meaning_laws.specs.Tree.{Expr, constant, function_name, string_place, variable, dereference, load, address_of, decay, discard, field, unary_operation, conversion, arithmetic, comparison, pointer_add, pointer_diff, and, or, assign, update, conditional, comma, call, call_through, type_of}
-use Rattle.c_meaning_laws.specs.Tree.{Exprs, no_exprs, more_exprs, Maybe, absent, there, Inits, no_inits, more_inits}
-use Rattle.c_meaning_laws.specs.Tree.{Stmt, block, empty, evaluate, declare, if_else, while_loop, do_loop, for_loop, switch_on, break_off, continue_on, return_void, return_value, Stmts, no_stmts, more_stmts, Groups, no_groups, more_groups}
-use Rattle.c_meaning_laws.specs.Tree.{Function, Program}
-use Rattle.c_meaning_laws.specs.Layout.{cells}
-use Rattle.c_meaning_laws.specs.Functions.{defined}
-use Rattle.c_meaning_laws.specs.Operators.{convert, binary}
-use Rattle.c_meaning_laws.specs.Pointers.{callee, truth_value, place, load_place, store_place, member, difference}
-use Rattle.c_meaning_laws.specs.Meaning.{Frame, Loop, World, either, name_in, behind_of, decayed, operated, comparing, moving, updated, with_marks, wants, call_undefined, called, system_call_alone, called_through, tested, eval, eval_each, eval_all, condition, perhaps, initialise, fresh, declared_by, declared_in, leaving, group_with, is_case, is_default, count_groups, or_else, selected, exec, exec_all, exec_from, without}
-use Rattle.c_meaning_laws.specs.Results.{State, with_memory, Go, then_do, answered, remembered, spend, on, returned, on_exit, on_round, out_of_switch}
-use Rattle.c_meaning_laws.specs.Runs.{no_marks, entered, parameters, result_of, run_body, enter, loop, world, beginning, ending, run}
+use Rattle.c_meaning.specs.Value.{Value}
+use Rattle.c_meaning.specs.Value.TheVariants.{Indeterminate}
+use Rattle.c_meaning.specs.TLabel.{TLabel}
+use Rattle.c_meaning.specs.Tree.{Expr, constant, dereference, load, address_of, decay, discard, field, unary_operation, conversion, arithmetic, comparison, pointer_add, pointer_diff, and, or, assign, update, conditional, comma, call, call_through, type_of}
+use Rattle.c_meaning.specs.Tree.{Exprs, no_exprs, more_exprs, Maybe, absent, there, Inits, no_inits, more_inits}
+use Rattle.c_meaning.specs.Tree.{Stmt, block, evaluate, declare, if_else, while_loop, do_loop, for_loop, switch_on, return_value, Stmts, no_stmts, more_stmts, Groups, no_groups, more_groups}
+use Rattle.c_meaning.specs.Tree.{Function, Program}
+use Rattle.c_meaning.specs.Layout.{cells}
+use Rattle.c_meaning.specs.Functions.{defined}
+use Rattle.c_meaning.specs.Operators.{convert, binary}
+use Rattle.c_meaning.specs.Pointers.{callee, truth_value, place, load_place, store_place, member, difference}
+use Rattle.c_meaning.specs.Meaning.{Frame, Loop, World, either, name_in, behind_of, decayed, operated, comparing, moving, updated, with_marks, wants, call_undefined, called, system_call_alone, called_through, tested, eval, eval_each, eval_all, condition, perhaps, initialise, fresh, declared_by, declared_in, leaving, group_with, is_case, is_default, count_groups, or_else, selected, exec, exec_all, exec_from, without}
+use Rattle.c_meaning.specs.Results.{State, with_memory, Go, then_do, answered, remembered, spend, on, returned, on_exit, on_round, out_of_switch}
+use Rattle.c_meaning.specs.Runs.{no_marks, entered, parameters, result_of, run_body, enter, loop, world, beginning, ending, run}
 use Rattle.null_calls_laws.specs.IsWithNullCalls.{IsWithNullCalls}
 use Rattle.null_calls_laws.specs.InstrumentedPrograms.{instrumented_program}
 use Rattle.null_calls_laws.specs.WithoutSites.{unsited, unsited_all, unsited_maybe, unsited_inits, unsited_stmt, unsited_stmts, unsited_groups, unsited_function, without_sites}

@@ -9,21 +9,21 @@ use Rattle.c_tree.specs.Functions.{int}
 use Rattle.c_tree.specs.Program.{IsFunction, IsProgram}
 use Rattle.c_tree.specs.Typed.{IsTest, IsStep, IsStmt}
 use Rattle.c_values.specs.Memory.{Objects as Memory}
-use Rattle.c_meaning_laws.specs.Mentions.{mentions_of_maybe}
+use Rattle.c_meaning.specs.Mentions.{mentions_of_maybe}
 use Rattle.c_meaning.specs.Meaning.{Frame, Loop, World, name_in, condition, perhaps, without, exec, either}
 use Rattle.c_meaning.specs.NullCalls.{DifferInNullCalls}
 use Rattle.c_meaning.specs.Results.{State, with_memory, Result, Go, Stop, then_do, Exit, on, on_round}
 use Rattle.c_meaning.specs.Runs.{no_marks, with_parameters, parameters, entered, run_body, enter, loop, world, beginning, ending, run}
-use Rattle.c_meaning_laws.specs.StoreTyping.{HasKind, IsTypedAfter, Grows, TellsOfStatics, IsTypedFrame}
-use Rattle.c_meaning_laws.specs.TypedResults.{IsExit, StandsIn, StandsRound, IsTypedWorld}
-use Rattle.c_meaning_laws.proofs.Places.{grows_on}
-use Rattle.c_meaning_laws.proofs.Keeps.{Holds, condition_ends, perhaps_ends, exec_ends}
-use Rattle.c_meaning_laws.proofs.Standing.{body_stands}
-use Rattle.c_meaning_laws.proofs.Worlds.{all_get, opens, body_typed, parts_typed, runs_begin_typed}
-use Rattle.c_meaning_laws.specs.FurtherObjects.{IsBeside, DoesAlike}
-use Rattle.c_meaning_laws.proofs.Together.{Does as Alike, Now, then_does as then_alike, later_does as later_alike, spend_does as spend_alike}
-use Rattle.c_meaning_laws.proofs.Statements.{without_beside, without_stays}
-use Rattle.c_meaning_laws.proofs.FurtherWorlds.{parameters_shown, parameters_beside, parameters_stay, result_does}
+use Rattle.c_meaning.specs.StoreTyping.{HasKind, IsTypedAfter, Grows, TellsOfStatics, IsTypedFrame}
+use Rattle.c_meaning.specs.TypedResults.{IsExit, StandsIn, StandsRound, IsTypedWorld}
+use Rattle.c_meaning.proofs.Places.{grows_on}
+use Rattle.c_meaning.proofs.Keeps.{Holds, condition_ends, perhaps_ends, exec_ends}
+use Rattle.c_meaning.proofs.Standing.{body_stands}
+use Rattle.c_meaning.proofs.Worlds.{all_get, opens, body_typed, parts_typed, runs_begin_typed}
+use Rattle.c_meaning.specs.FurtherObjects.{IsBeside, DoesAlike}
+use Rattle.c_meaning.proofs.Together.{Does as Alike, Now, then_does as then_alike, later_does as later_alike, spend_does as spend_alike}
+use Rattle.c_meaning.proofs.Statements.{without_beside, without_stays}
+use Rattle.c_meaning.proofs.FurtherWorlds.{parameters_shown, parameters_beside, parameters_stay, result_does}
 use Rattle.null_calls_laws.specs.MarkedRuns.{null_calls_of}
 use Rattle.null_calls_laws.proofs.Marking.{marked_runs_differ, erased_marked_runs}
 use Rattle.null_calls_laws.proofs.TypedRuns.{null_calls_recorded}

@@ -2,7 +2,7 @@
 use Rattle.std.specs.Prelude.{List, []}
 use Rattle.c_tree.specs.Tree.{Expr, Exprs, Maybe, Inits, Stmt, Stmts, Groups}
 use Rattle.c_tree.specs.Gathered.{Gathering, gathered, gathered_all, gathered_maybe, gathered_inits, gathered_stmt, gathered_stmts, gathered_groups}
-use Rattle.c_meaning_laws.specs.Mentions.{Direct, Through, Mention, Calls}
+use Rattle.c_meaning.specs.Mentions.{Direct, Through, Mention, Calls}
 
 abbrev pub all_calls : Gathering Mention
 all_calls = record {

@@ -1,7 +1,7 @@
 -- The instrumented unit: the two null calls are declared, each function declares its temporaries, and each marked call stands between its
 -- null calls.
 use Rattle.std.specs.Prelude.{ℕ, ◌+◌, List}
-use Rattle.c_meaning_laws.specs.Tree.{Program}
+use Rattle.c_meaning.specs.Tree.{Program}
 use Rattle.c_rules.specs.Tree.{no_storage, unsigned_int, void, nothing, named, function, no_params, more_params, no_init, no_parts, more_parts, decl}
 use Rattle.c_rules.specs.Tree.{Stmt, block, BlockItems, Item, struct_item, enum_item, tag_item, decl_item, function_item, Items, no_items, more_items}
 use Rattle.c_rules.specs.Names.{Name}

@@ -2,7 +2,7 @@
 -- calls whose opening parentheses stand before its own.
 use Rattle.std.specs.Prelude.{ℕ, suc, ◌+◌, nat_eq, Bool, true, false, ◌&&◌, List, [], ◌++◌, Option, None, Some, if◌then◌else◌}
 use Rattle.c_lexer.specs.declared.punctuator.TheConstants as punctuators
-use Rattle.c_meaning_laws.specs.Tree.{CType}
+use Rattle.c_meaning.specs.Tree.{CType}
 use Rattle.c_rules.specs.Tree.{Expr, a_name, an_int, a_char, a_str, comma, sizeof_type, cast, call, member, postfix, prefix, unary, index, binary, assign, conditional, Exprs, no_exprs, more_exprs, Maybe, absent, there}
 use Rattle.c_rules.specs.Tree.{TypeName, type_name, nothing, void}
 use Rattle.c_rules.specs.Names.{Name}

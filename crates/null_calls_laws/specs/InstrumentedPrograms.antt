@@ -2,15 +2,15 @@
 -- its null calls, what it takes and gives is kept in temporaries, and these are numbered after the function's other variables.
 -- The sites are left aside: they are all 0 here.
 use Rattle.std.specs.Prelude.{ℕ, suc, ◌+◌, Bool, true, false, List, [], ◌∷◌, ◌++◌, map, length, Option, None, Some, if◌then◌else◌}
-use Rattle.c_meaning_laws.specs.Value.TheVariants.{Uint}
-use Rattle.c_meaning_laws.specs.Tree.{CType, void, pointer, function, list_of}
-use Rattle.c_meaning_laws.specs.Tree.{Expr, constant, function_name, string_place, variable, dereference, load, address_of, decay, discard, field, unary_operation, conversion, arithmetic, comparison, pointer_add, pointer_diff, and, or, assign, update, conditional, comma, call, call_through, type_of}
-use Rattle.c_meaning_laws.specs.Tree.{Exprs, no_exprs, more_exprs, Maybe, absent, there, Inits, no_inits, more_inits}
-use Rattle.c_meaning_laws.specs.Tree.{Stmt, block, empty, evaluate, declare, if_else, while_loop, do_loop, for_loop, switch_on, break_off, continue_on, return_void, return_value, Stmts, no_stmts, more_stmts, Groups, no_groups, more_groups}
-use Rattle.c_meaning_laws.specs.Tree.{Function, Program}
-use Rattle.c_meaning_laws.specs.Functions.{defined, unsigned_int, called_type}
-use Rattle.c_meaning_laws.specs.Mentions.{Direct, Through}
-use Rattle.c_meaning_laws.specs.CallGraph.{is_marked}
+use Rattle.c_meaning.specs.Value.TheVariants.{Uint}
+use Rattle.c_meaning.specs.Tree.{CType, void, pointer, function, list_of}
+use Rattle.c_meaning.specs.Tree.{Expr, constant, function_name, string_place, variable, dereference, load, address_of, decay, discard, field, unary_operation, conversion, arithmetic, comparison, pointer_add, pointer_diff, and, or, assign, update, conditional, comma, call, call_through, type_of}
+use Rattle.c_meaning.specs.Tree.{Exprs, no_exprs, more_exprs, Maybe, absent, there, Inits, no_inits, more_inits}
+use Rattle.c_meaning.specs.Tree.{Stmt, block, empty, evaluate, declare, if_else, while_loop, do_loop, for_loop, switch_on, break_off, continue_on, return_void, return_value, Stmts, no_stmts, more_stmts, Groups, no_groups, more_groups}
+use Rattle.c_meaning.specs.Tree.{Function, Program}
+use Rattle.c_meaning.specs.Functions.{defined, unsigned_int, called_type}
+use Rattle.c_meaning.specs.Mentions.{Direct, Through}
+use Rattle.c_meaning.specs.CallGraph.{is_marked}
 use Rattle.null_calls_laws.specs.Temporaries.{is_kept}
 
 -- ## Temporaries

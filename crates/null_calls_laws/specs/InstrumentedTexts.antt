@@ -13,7 +13,7 @@ use Rattle.c_rules.specs.Accepted.{IsAcceptedAs}
 use Rattle.c_rules.specs.Units.{IsTyped}
 use Rattle.c_meaning.specs.NullCalls.{DifferInNullCalls}
 use Rattle.c_meaning.specs.Runs.{run}
-use Rattle.c_meaning_laws.specs.MarkedRuns.{marked_run}
+use Rattle.c_meaning.specs.MarkedRuns.{marked_run}
 use Rattle.null_calls_laws.specs.Instrumented.{instrumented_unit}
 use Rattle.null_calls_laws.specs.IsWithNullCalls.{IsWithNullCalls}
 

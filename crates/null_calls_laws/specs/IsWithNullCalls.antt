@@ -1,6 +1,6 @@
 -- When a program is another one with null calls round its marked calls.
 use Rattle.std.specs.Prelude.{◌≡◌}
-use Rattle.c_meaning_laws.specs.Tree.{Program}
+use Rattle.c_meaning.specs.Tree.{Program}
 use Rattle.null_calls_laws.specs.InstrumentedPrograms.{instrumented_program}
 use Rattle.null_calls_laws.specs.WithoutSites.{without_sites}
 

@@ -64,9 +64,9 @@ pub mod Texts
 pub mod RunLaws
 pub mod NoFalseAlarmInstrumented
 pub mod Pieces
-pub use Rattle.c_meaning_laws.specs.MarkedRuns
-pub use Rattle.c_meaning_laws.specs.Monitors
-pub use Rattle.c_meaning_laws.specs.NoFalseAlarm
+pub use Rattle.c_meaning.specs.MarkedRuns
+pub use Rattle.c_meaning.specs.Monitors
+pub use Rattle.c_meaning.specs.NoFalseAlarm
 pub use Rattle.c_rules_laws.specs.Lexical
 pub use Rattle.c_rules_laws.specs.MadeTypes
 pub use Rattle.c_rules_laws.specs.PlaceLaws

@@ -1,9 +1,9 @@
 -- What the instrumenter has to know of a program: at which sites null calls are to stand, and what is called there.
 use Rattle.std.specs.Prelude.{ℕ, Option, None, Some, if◌then◌else◌}
-use Rattle.c_meaning_laws.specs.Tree.{CType, pointer, function, CTypes, Program}
-use Rattle.c_meaning_laws.specs.Functions.{value_type}
-use Rattle.c_meaning_laws.specs.Mentions.{Callee, Direct, Through, mentions_of_program}
-use Rattle.c_meaning_laws.specs.CallGraph.{callee_at, is_marked}
+use Rattle.c_meaning.specs.Tree.{CType, pointer, function, CTypes, Program}
+use Rattle.c_meaning.specs.Functions.{value_type}
+use Rattle.c_meaning.specs.Mentions.{Callee, Direct, Through, mentions_of_program}
+use Rattle.c_meaning.specs.CallGraph.{callee_at, is_marked}
 
 -- What a marked call calls: the type of its pointer where it calls through one, and the types of its result and parameters.
 pub record Called : Type 0 where

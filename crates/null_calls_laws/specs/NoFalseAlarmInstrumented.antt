@@ -4,10 +4,10 @@ use Rattle.std.specs.Prelude.{ℕ, List}
 use Rattle.sys_table.specs.declared.sys_result.SysResult.{SysResult}
 use Rattle.c_tree.specs.Tree.{Program}
 use Rattle.c_tree.specs.Program.{IsProgram}
-use Rattle.c_meaning_laws.specs.ProgramLanguages.{Dyck}
+use Rattle.c_meaning.specs.ProgramLanguages.{Dyck}
 use Rattle.c_meaning.specs.Runs.{run}
 use Rattle.c_meaning.specs.WithoutNullCalls.{MakesNoNullCall}
-use Rattle.c_meaning_laws.specs.GraphOfProgram.{graph_of_program}
+use Rattle.c_meaning.specs.GraphOfProgram.{graph_of_program}
 use Rattle.null_calls_laws.specs.Monitors.{IsAcceptedByAll}
 use Rattle.null_calls_laws.specs.IsWithNullCalls.{IsWithNullCalls}
 

@@ -1,8 +1,8 @@
 -- What a program does doesn't depend on the numbers of its sites.
 use Rattle.std.specs.Prelude.{◌≡◌, ℕ, List}
 use Rattle.sys_table.specs.declared.sys_result.SysResult.{SysResult}
-use Rattle.c_meaning_laws.specs.Tree.{Program}
-use Rattle.c_meaning_laws.specs.Runs.{run}
+use Rattle.c_meaning.specs.Tree.{Program}
+use Rattle.c_meaning.specs.Runs.{run}
 use Rattle.null_calls_laws.specs.IsWithNullCalls.{IsWithNullCalls}
 use Rattle.null_calls_laws.specs.InstrumentedPrograms.{instrumented_program}
 use Rattle.null_calls_laws.specs.WithoutSites.{without_sites}

@@ -1,9 +1,9 @@
 -- How a type is written: the specifier and the declarator of an object of that type (C99 6.7.5). Parameters of functions have no names.
 use Rattle.std.specs.Prelude.{ℕ, false, List, slice_index_or, []}
-use Rattle.c_meaning_laws.specs.IntType.{IntType}
-use Rattle.c_meaning_laws.specs.IntType.TheVariants.{Char, Uchar, Int, Uint}
-use Rattle.c_meaning_laws.specs.Tree.{CType, CTypes, no_types, more_types}
-use Rattle.c_meaning_laws.specs.Tree as typed
+use Rattle.c_meaning.specs.IntType.{IntType}
+use Rattle.c_meaning.specs.IntType.TheVariants.{Char, Uchar, Int, Uint}
+use Rattle.c_meaning.specs.Tree.{CType, CTypes, no_types, more_types}
+use Rattle.c_meaning.specs.Tree as typed
 use Rattle.c_rules.specs.Tree.{Spec, Declarator, Params, no_params, more_params, there, an_int}
 use Rattle.c_rules.specs.Tree as syntax
 use Rattle.c_rules.specs.Names.{Name}

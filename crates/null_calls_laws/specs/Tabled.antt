@@ -3,8 +3,8 @@ use Rattle.std.specs.Prelude.{◌≡◌, ℕ, suc, ◌+◌, Bool, List, [], ◌�
 use Rattle.c_tree.specs.Tree.{CType, void, pointer, function, CTypes, Program, type_of}
 use Rattle.c_tree.specs.Functions.{unsigned_int, of_one, called_type}
 use Rattle.c_tree.specs.Operands.{IsResult}
-use Rattle.c_meaning_laws.specs.Mentions.{Direct, Through}
-use Rattle.c_meaning_laws.specs.CallGraph.{is_marked}
+use Rattle.c_meaning.specs.Mentions.{Direct, Through}
+use Rattle.c_meaning.specs.CallGraph.{is_marked}
 use Rattle.c_syntax.specs.Tree.{Expr, a_name, an_int, a_char, a_str, comma, sizeof_type, cast, call, member, postfix, prefix, unary, index, binary, assign, conditional, Exprs, no_exprs, more_exprs, TypeName, type_name}
 use Rattle.c_syntax.specs.Tree.{pre_increment, pre_decrement, sizeof}
 use Rattle.c_rules.specs.Checked.{fine}

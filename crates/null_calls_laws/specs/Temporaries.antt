@@ -1,6 +1,6 @@
 -- The names of the instrumenter, and the temporaries of a marked call: where the designator, the arguments and the result are kept.
 use Rattle.std.specs.Prelude.{ℕ, zero, suc, ◌+◌, ◌/◌, ◌%◌, Bool, false, List, [], ◌∷◌, ◌++◌, Option, None, Some, codes, nat_lt, if◌then◌else◌}
-use Rattle.c_meaning_laws.specs.Tree.{CType, void, CTypes, no_types, more_types}
+use Rattle.c_meaning.specs.Tree.{CType, void, CTypes, no_types, more_types}
 use Rattle.c_rules.specs.Names.{Name}
 use Rattle.c_rules.specs.Tree.{named, no_storage, Decl, decl, more_parts, no_parts, no_init, BlockItems, block_decl}
 use Rattle.null_calls_laws.specs.MarkedCalls.{Called}

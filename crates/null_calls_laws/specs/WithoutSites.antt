@@ -1,9 +1,9 @@
 -- A program whose sites are all 0: what it does doesn't depend on them.
 use Rattle.std.specs.Prelude.{map}
-use Rattle.c_meaning_laws.specs.Tree.{Expr, constant, function_name, string_place, variable, dereference, load, address_of, decay, discard, field, unary_operation, conversion, arithmetic, comparison, pointer_add, pointer_diff, and, or, assign, update, conditional, comma, call, call_through}
-use Rattle.c_meaning_laws.specs.Tree.{Exprs, no_exprs, more_exprs, Maybe, absent, there, Inits, no_inits, more_inits}
-use Rattle.c_meaning_laws.specs.Tree.{Stmt, block, empty, evaluate, declare, if_else, while_loop, do_loop, for_loop, switch_on, break_off, continue_on, return_void, return_value, Stmts, no_stmts, more_stmts, Groups, no_groups, more_groups}
-use Rattle.c_meaning_laws.specs.Tree.{Function, Program}
+use Rattle.c_meaning.specs.Tree.{Expr, constant, function_name, string_place, variable, dereference, load, address_of, decay, discard, field, unary_operation, conversion, arithmetic, comparison, pointer_add, pointer_diff, and, or, assign, update, conditional, comma, call, call_through}
+use Rattle.c_meaning.specs.Tree.{Exprs, no_exprs, more_exprs, Maybe, absent, there, Inits, no_inits, more_inits}
+use Rattle.c_meaning.specs.Tree.{Stmt, block, empty, evaluate, declare, if_else, while_loop, do_loop, for_loop, switch_on, break_off, continue_on, return_void, return_value, Stmts, no_stmts, more_stmts, Groups, no_groups, more_groups}
+use Rattle.c_meaning.specs.Tree.{Function, Program}
 
 abbrev mutual
   pub unsited : Expr → Expr

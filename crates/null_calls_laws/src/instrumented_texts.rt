@@ -5,7 +5,7 @@ use crate::{
     a_plain_text_makes_no_null_call, instrumented_texts_run_marked,
     units_are_typed_alike_apart_from_places,
 };
-use c_meaning_laws::marked_runs_are_runs;
+use c_meaning::marked_runs_are_runs;
 
 /// A law on texts: where the instrumented text of a text that is accepted in the mode Plain has at most 16 MiB, it is accepted in the mode
 /// Instrumented, as the program with null calls round its marked calls (Giffin, Jha and Miller 2004); for all recorded results and

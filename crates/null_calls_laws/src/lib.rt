@@ -1,45 +1,15 @@
 //! The instrumenter, as a definition: the unit with null calls round its marked calls, in the manner of Giffin, Jha and Miller
-//! ("Efficient Context-Sensitive Intrusion Detection", NDSS 2004), and the program that it is typed as. It has no code but its laws.
-//! What is counted in a unit with null calls round its marked calls: numbers, heights, tags (C99 5.2.4.1, 6.7.2.3). It has no code but its
-//! laws.
+//! ("Efficient Context-Sensitive Intrusion Detection", NDSS 2004), and the program that it is typed as; and what holds of them. It has
+//! no code but its laws.
 //!
-//! - What is counted in expressions and statements with null calls round their marked calls (C99 5.2.4.1).
-//! - How deep the nodes of expressions and statements with null calls round their marked calls stand in each other (C99 5.2.4.1).
-//! - The tags of structs in functions with null calls round their marked calls (C99 6.7.2.3).
-//! Expressions of an instrumented unit beside the plain ones (C99 6.5). It has no code but its laws.
-//!
-//! - The rules on expressions where operands have null calls round their marked calls (C99 6.5).
-//! - Expressions with null calls round their marked calls beside the plain ones (C99 6.5).
-//! - Calls of an instrumented unit beside the plain ones (C99 6.5.2.2).
-//! Statements, declarations and initialisers of an instrumented unit beside the plain ones (C99 6.7, 6.8). It has no code but its laws.
-//!
-//! - The expressions of statements in an instrumented unit beside the plain ones (C99 6.8).
-//! - Initialisers of variables in an instrumented unit beside the plain ones (C99 6.7.8).
-//! - Declarations in blocks of an instrumented unit beside the plain ones (C99 6.7).
-//! - Statements of an instrumented unit beside the plain ones (C99 6.8).
-//! The instrumented unit of each typed unit is typed, as a program that is the plain one with null calls (Giffin, Jha and Miller 2004). It
-//! has no code but its laws.
-//!
-//! - The names of the instrumenter's temporaries: definitions, and the law.
-//! - How types are written in C (C99 6.7.5): what is declared with the specifier and the declarator of a type has that type.
-//! - Calls of functions that are well-typed stand at their sites, and have temporaries whose types declarators make.
-//! - Items of an instrumented unit that are no functions (C99 6.7, 6.9).
-//! - Definitions of functions in an instrumented unit, which begin with the declarations of the temporaries of their marked calls (C99
-//!   6.9.1).
-//! - The instrumented unit of each typed unit is typed, as a program that is the plain one with null calls round its marked calls (Giffin,
-//!   Jha and Miller 2004).
-//! The instrumented text of a text is accepted, as a program that does what the plain one does but for null calls (Giffin, Jha and Miller
-//! 2004). It has no code but its laws.
-//!
-//! - The instrumented unit of each typed unit that a text spells is one that some tokens spell (C99 6.9; Giffin, Jha and Miller 2004), so
-//!   that its printed text is read back.
-//! - What stands in an instrumented unit: constants in range, and strings that are no longer than a text (C99 6.4.4, 6.4.5).
-//! - What the instrumented text of a C text is accepted as, and what its program does (Giffin, Jha and Miller 2004).
-//! What a program does that has null calls round its marked calls (Giffin, Jha and Miller 2004). It has no code but its laws.
-//!
-//! - What each piece does that stands in a program with null calls round its marked calls (Giffin, Jha and Miller 2004): definitions, and
-//!   the law.
-//! - What a program does that has null calls round its marked calls (Giffin, Jha and Miller 2004): the laws.
+//! - What is counted in a unit with null calls round its marked calls: numbers, heights, and the tags of structs (C99 5.2.4.1, 6.7.2.3).
+//! - Expressions, calls, initialisers, declarations, statements and items of an instrumented unit beside the plain ones (C99 6.5, 6.7,
+//!   6.8, 6.9), and definitions of functions, which begin with the declarations of the temporaries of their marked calls (C99 6.9.1).
+//! - The names of the instrumenter's temporaries, and how their types are written (C99 6.7.5).
+//! - The instrumented unit of each typed unit is typed, as a program that is the plain one with null calls round its marked calls.
+//! - The instrumented unit of each typed unit that a text spells is one that some tokens spell, with constants in range and strings no
+//!   longer than a text (C99 6.4.4, 6.4.5), so that its printed text is read back.
+//! - What the instrumented text of a C text is accepted as, and what its program does: what the plain one does but for null calls.
 #![tactic(auto)]
 
 mod call_laws;
@@ -65,7 +35,7 @@ mod temporary_names;
 mod text_laws;
 mod unit_laws;
 
-pub use c_meaning_laws::{marked_runs_are_runs, monitors_accept_runs, runs_raise_no_alarm};
+pub use c_meaning::{marked_runs_are_runs, monitors_accept_runs, runs_raise_no_alarm};
 pub use c_rules_laws::{a_plain_text_makes_no_null_call, units_are_typed_alike_apart_from_places};
 pub use call_laws::{
     calls_are_within, calls_go, expressions_go, kept_arguments_go, kept_values_are_given,

@@ -9,20 +9,20 @@ use Rattle.c_tree.specs.Functions.{defined, value_type}
 use Rattle.c_tree.specs.Program.{IsProgram}
 use Rattle.c_tree.specs.View.{ctype_of, types_of}
 use Rattle.c_tree.proofs.Rows.{function_is}
-use Rattle.c_meaning_laws.specs.Mentions.{Callee, Direct, Through, mentions_of_program}
-use Rattle.c_meaning_laws.specs.CallGraph.{callee_at, is_marked, marked_where}
+use Rattle.c_meaning.specs.Mentions.{Callee, Direct, Through, mentions_of_program}
+use Rattle.c_meaning.specs.CallGraph.{callee_at, is_marked, marked_where}
 use Rattle.null_calls_laws.specs.MarkedCalls as term
 use Rattle.null_calls_laws.specs.MarkedCalls.{called_as, called_by_type, marked_of, sites_of}
-use Rattle.call_graph.proofs.SitesLemmas.{no_site}
-use Rattle.call_graph.specs.declared.mention.Mention.{Mention}
-use Rattle.call_graph.specs.declared.mention.Mention.TheVariants as m
-use Rattle.call_graph.specs.Saying.{mention_of, said}
+use Rattle.flow_graph.proofs.SitesLemmas.{no_site}
+use Rattle.flow_graph.specs.declared.mention.Mention.{Mention}
+use Rattle.flow_graph.specs.declared.mention.Mention.TheVariants as m
+use Rattle.flow_graph.specs.Saying.{mention_of, said}
 use Rattle.null_calls_temporaries.specs.declared.callees.Designator.{Designator}
 use Rattle.null_calls_temporaries.specs.declared.marked_sites.MarkedSites.{MarkedSites}
 use Rattle.null_calls_temporaries.specs.declared.table.Called.{Called}
 use Rattle.null_calls_temporaries.specs.Callees.{callee_where, callee_after, IsDefinedWhere}
 use Rattle.null_calls_temporaries.specs.Sited.{called_of, called_where, sited}
-use Rattle.call_graph.proofs.BelowOrAt.{below_or_at}
+use Rattle.flow_graph.proofs.BelowOrAt.{below_or_at}
 
 -- ## What is called at a site
 

@@ -3,8 +3,8 @@ use Rattle.std.specs.Prelude.{ℕ, ◌<◌, Bool, true, false, nat_eq, Option, N
 use Rattle.c_tree.specs.Tree.{Program}
 use Rattle.c_tree.specs.Functions.{defined}
 use Rattle.c_tree.specs.View.{ctype_of}
-use Rattle.c_meaning_laws.specs.Mentions as term
-use Rattle.c_meaning_laws.specs.Mentions.{Callee, Direct, Through}
+use Rattle.c_meaning.specs.Mentions as term
+use Rattle.c_meaning.specs.Mentions.{Callee, Direct, Through}
 use Rattle.null_calls_temporaries.specs.declared.callees.Designator.{Designator}
 use Rattle.null_calls_temporaries.specs.declared.callees.Designator.TheVariants as d
 

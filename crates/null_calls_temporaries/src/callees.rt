@@ -1,11 +1,11 @@
 ghost use Rattle.std.specs.Prelude.{◌≡◌, ◌<◌, ℕ, nat_eq, None, length, slice_index_or, IfOk};
-ghost use Rattle.c_meaning_laws.specs.CallGraph.{callee_at};
-ghost use Rattle.call_graph.specs.Saying.{mention_of, said};
+ghost use Rattle.c_meaning.specs.CallGraph.{callee_at};
+ghost use Rattle.flow_graph.specs.Saying.{mention_of, said};
 ghost use Rattle.null_calls_temporaries.specs.Callees.{callee_where, put_where, callee_after};
 
 use c_tree::CType;
-use call_graph::Mention;
 use dm_base::OutOfMemory;
+use flow_graph::Mention;
 use std::alloc::Global;
 
 // What is called: the function with this number by its name, or a pointer of this type.

@@ -3,7 +3,7 @@ ghost use Rattle.c_syntax.specs.Tree.{BlockItems, block_decl};
 ghost use Rattle.c_syntax.specs.View.{spec_of, declarator_of};
 ghost use Rattle.c_syntax.specs.UnitView.{decl_of};
 ghost use Rattle.c_syntax.specs.WritesUnit.{block_items_of};
-ghost use Rattle.c_syntax_nodes.specs.Seen.{seen};
+ghost use Rattle.c_syntax.specs.SeenNames.{seen};
 ghost use Rattle.null_calls_laws.specs.Temporaries.{declaration_of, declared_before};
 ghost use Rattle.null_calls_temporaries.specs.Kept.{temporary_of, temporaries_of, items_onto, alone};
 

@@ -3,9 +3,9 @@ ghost use Rattle.std.specs.Prelude.{◌≡◌, ◌∷◌, ◌++◌, ◌<◌, ◌
 use crate::callees::{callee_in, callees_of};
 use crate::table::{Called, called_at};
 use c_tree::Program;
-use call_graph::{Calls, said_in};
 use dm_base::OutOfMemory;
 use dm_counts::Count;
+use flow_graph::{Calls, said_in};
 use std::alloc::Global;
 
 /// A call that stands between null calls.
@@ -35,7 +35,7 @@ fn add<'p>(into: &mut Vec<Option<Called<'p>>>, one: Option<Called<'p>>) -> Resul
 impl<'p> MarkedSites<'p> {
     ghost use Rattle.std.specs.Prelude.{ℕ, IfOk};
     ghost use Rattle.c_tree.specs.View.{program_of};
-    ghost use Rattle.call_graph.specs.Calls.{AreCallsOf};
+    ghost use Rattle.flow_graph.specs.Calls.{AreCallsOf};
     ghost use Rattle.null_calls_laws.specs.MarkedCalls as marks;
     ghost use Rattle.null_calls_temporaries.specs.Sited.{called_where, sited, IsCallAt};
 

@@ -6,7 +6,7 @@ ghost use Rattle.c_syntax.specs.Tree.{nothing};
 ghost use Rattle.c_syntax.specs.View.{spec_of, declarator_of};
 ghost use Rattle.c_syntax.specs.Writes.{declarator_in};
 ghost use Rattle.c_syntax_nodes.specs.Copied.{param_of};
-ghost use Rattle.c_syntax_nodes.specs.Seen.{seen};
+ghost use Rattle.c_syntax.specs.SeenNames.{seen};
 ghost use Rattle.null_calls_laws.specs.SpelledTypes as types;
 ghost use Rattle.null_calls_temporaries.specs.Spelled.{spelled_param};
 

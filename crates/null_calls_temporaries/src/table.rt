@@ -1,16 +1,16 @@
 ghost use Rattle.std.specs.Prelude.{◌≡◌, ◌<◌};
 ghost use Rattle.c_tree.specs.Functions.{defined};
 ghost use Rattle.c_tree.specs.View.{ctype_of, types_of, program_of};
-ghost use Rattle.c_meaning_laws.specs.CallGraph.{callee_at};
-ghost use Rattle.c_meaning_laws.specs.Mentions.{Direct, mentions_of_program};
-ghost use Rattle.call_graph.specs.Calls.{AreCallsOf};
+ghost use Rattle.c_meaning.specs.CallGraph.{callee_at};
+ghost use Rattle.c_meaning.specs.Mentions.{Direct, mentions_of_program};
+ghost use Rattle.flow_graph.specs.Calls.{AreCallsOf};
 ghost use Rattle.null_calls_laws.specs.MarkedCalls as marks;
 ghost use Rattle.null_calls_temporaries.specs.Callees.{callee_of, callee_where, IsDefinedWhere};
 ghost use Rattle.null_calls_temporaries.specs.Sited.{type_where, called_of, called_where};
 
 use crate::callees::Designator;
 use c_tree::{CType, Program};
-use call_graph::Calls;
+use flow_graph::Calls;
 
 /// What a marked call calls.
 #[derive(Clone, Copy)]

@@ -13,7 +13,7 @@ use Rattle.c_tree.specs.Functions.{sys_types}
 use Rattle.c_syntax.specs.Tree.{Items}
 use Rattle.c_rules.specs.Units.{checked}
 use Rattle.c_meaning.specs.Runs.{Run, run}
-use Rattle.c_meaning_laws.specs.MarkedRuns.{marked_run}
+use Rattle.c_meaning.specs.MarkedRuns.{marked_run}
 use Rattle.program_trials.proofs.Units.{overflow_unit, by_zero_unit, far_shift_unit, past_member_unit, two_arrays_unit, null_member_unit, ended_parameter_unit, before_array_unit, shadowed_unit, string_cells_unit, array_parameter_unit, members_unit, falls_through_unit, commas_unit, chooses_unit, compound_char_unit, recursion_unit, recursion_short_unit, echo_unit}
 use Rattle.c_rules.proofs.NoProgram.{program_or_none}
 

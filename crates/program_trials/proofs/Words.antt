@@ -15,8 +15,8 @@ use Rattle.c_rules.specs.Units.{IsTyped}
 use Rattle.c_rules_laws.specs.Lexical.{IsUnitLexical}
 use Rattle.c_rules_laws.specs.Programs.{calls_of_unit}
 use Rattle.c_rules_laws.proofs.WholeUnits.{unit_program}
-use Rattle.c_meaning_laws.specs.ProgramLanguages.{Callgraph}
-use Rattle.c_meaning_laws.specs.ShapeOf.{shapes_of, names_of_functions}
+use Rattle.c_meaning.specs.ProgramLanguages.{Callgraph}
+use Rattle.c_meaning.specs.ShapeOf.{shapes_of, names_of_functions}
 use Rattle.flow_model.specs.declared.records.ModelFunction.{ModelFunction}
 use Rattle.flow_model.specs.declared.records.SilentEdge.{SilentEdge}
 use Rattle.flow_model.specs.declared.records.SysEdge.{SysEdge}
@@ -26,11 +26,11 @@ use Rattle.flow_model.specs.Graph.{Graph, HasSys, HasFunction}
 use Rattle.flow_model.specs.Language.{Reads, Quiet, Walk}
 use Rattle.flow_model.specs.Language.Quiet.{silent as q_silent, enter as q_enter, leave as q_leave}
 use Rattle.flow_model.specs.Language.Walk.{over as w_over, quiet as w_quiet, calls as w_calls}
-use Rattle.c_meaning_laws.specs.Equal.{AreEqual}
-use Rattle.c_meaning_laws.specs.GraphOfProgram.{graph_of_program}
-use Rattle.c_meaning_laws.proofs.Edges.{first_or, none_of}
-use Rattle.c_meaning_laws.proofs.ProgramsClosed.{closed, many_names}
-use Rattle.c_meaning_laws.proofs.Runs.{callgraph}
+use Rattle.c_meaning.specs.Equal.{AreEqual}
+use Rattle.c_meaning.specs.GraphOfProgram.{graph_of_program}
+use Rattle.c_meaning.proofs.Edges.{first_or, none_of}
+use Rattle.c_meaning.proofs.ProgramsClosed.{closed, many_names}
+use Rattle.c_meaning.proofs.Runs.{callgraph}
 use Rattle.program_trials.proofs.Runs.{program_of}
 use Rattle.program_trials.proofs.Units.{two_callers_unit}
 

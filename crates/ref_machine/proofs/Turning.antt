@@ -13,7 +13,7 @@ use Rattle.c_values.specs.Memory.{Objects, ended}
 use Rattle.c_meaning.specs.Meaning.{Frame as Place, Loop as Rounds, World, without}
 use Rattle.c_meaning.specs.Results.{State, with_memory, Result, Go, Stop, after, then_do, Exit}
 use Rattle.c_meaning.specs.Runs.{result_of, parameters, entered, with_parameters, ending, exit_of}
-use Rattle.c_meaning_laws.specs.TypedResults.{IsEnding}
+use Rattle.c_meaning.specs.TypedResults.{IsEnding}
 use Rattle.ref_machine_frames.specs.Held.{condition, enter, exec, run_body, run_few, world}
 use Rattle.ref_machine_frames.specs.declared.frames.After.{After}
 use Rattle.ref_machine_frames.specs.declared.frames.After.TheVariants as afters

@@ -7,7 +7,7 @@ use Rattle.sys_table.specs.declared.sys_result.SysResult.{SysResult}
 use Rattle.c_tree.specs.View.{program_of}
 use Rattle.c_values.specs.Seen.{seen}
 use Rattle.c_meaning.specs.Runs.{Run, ending}
-use Rattle.c_meaning_laws.specs.TypedResults.{IsEnding}
+use Rattle.c_meaning.specs.TypedResults.{IsEnding}
 use Rattle.ref_machine_frames.specs.declared.frames.Now.{Now}
 use Rattle.ref_machine.specs.declared.machine.Machine.{Machine}
 use Rattle.ref_machine.specs.declared.pause.Pause.{Pause}

@@ -5,6 +5,6 @@ pub mod Props
 pub mod Stages
 pub mod Standing
 pub mod WholeRuns
-pub use Rattle.c_meaning_laws.specs.Laws
-pub use Rattle.c_meaning_laws.specs.TypedResults
+pub use Rattle.c_meaning.specs.Laws
+pub use Rattle.c_meaning.specs.TypedResults
 pub use Rattle.c_meaning.specs.Runs

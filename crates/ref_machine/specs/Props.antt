@@ -4,7 +4,7 @@ use Rattle.std.specs.Int.{w32}
 use mir.ValLaws.{SFits-prop}
 use Rattle.dm_base.specs.declared.outcome.Outcome.{Outcome}
 use Rattle.dm_base.specs.declared.outcome.Outcome.TheVariants.{Exit, Undefined, Turns, Results, BadResult}
-use Rattle.c_meaning_laws.specs.TypedResults.{IsEnding}
+use Rattle.c_meaning.specs.TypedResults.{IsEnding}
 use Rattle.ref_machine_frames.specs.declared.frames.Now.{Now}
 use Rattle.ref_machine_frames.specs.declared.frames.Now.TheVariants as nows
 use Rattle.ref_machine.specs.declared.machine.Stage.{Stage}

@@ -7,7 +7,7 @@ use Rattle.c_tree.specs.Tree.{Program}
 use Rattle.c_values.specs.Memory.{Objects}
 use Rattle.c_meaning.specs.Results.{State, Result}
 use Rattle.c_meaning.specs.Runs.{ending}
-use Rattle.c_meaning_laws.specs.TypedResults.{IsEnding}
+use Rattle.c_meaning.specs.TypedResults.{IsEnding}
 use Rattle.ref_machine_frames.specs.Held.{world}
 use Rattle.ref_machine_frames.specs.declared.frames.After.{After}
 use Rattle.ref_machine_frames.specs.declared.frames.After.TheVariants as afters

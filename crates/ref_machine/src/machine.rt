@@ -10,7 +10,7 @@ ghost use Rattle.ref_machine.specs.Stages.{HasCall};
 
 use crate::Pause;
 use crate::stepping::{coming, go_on, settled};
-use c_meaning_laws::values_have_kinds;
+use c_meaning::values_have_kinds;
 use c_tree::Program;
 use c_values::Memory;
 use dm_base::{OutOfMemory, Outcome, SysName};

@@ -1,15 +1,15 @@
 ghost use Rattle.std.specs.Prelude.{◌≡◌, true, IfOk, drop};
 ghost use Rattle.c_tree.specs.View.{program_of};
 ghost use Rattle.c_meaning.specs.Runs.{run};
-ghost use Rattle.c_meaning_laws.specs.ProgramLanguages.{Callgraph, Stack};
+ghost use Rattle.c_meaning.specs.ProgramLanguages.{Callgraph, Stack};
 ghost use Rattle.ref_machine.specs.Futures.{future, is_waiting, records_taken};
 ghost use Rattle.ref_machine.specs.KeptTypes.{HasFunctionValues};
 ghost use Rattle.ref_machine.specs.WholeRuns.{Follows, Happens, Waits, run_of};
-ghost use Rattle.c_meaning_laws.specs.Laws.{IsTypedRun};
+ghost use Rattle.c_meaning.specs.Laws.{IsTypedRun};
 
 use crate::whole::Run;
 use crate::{Machine, Next, Pause};
-use c_meaning_laws::{callees_are_candidates, runs_raise_no_alarm, values_have_kinds};
+use c_meaning::{callees_are_candidates, runs_raise_no_alarm, values_have_kinds};
 use c_tree::Program;
 use dm_base::OutOfMemory;
 use std::alloc::Global;

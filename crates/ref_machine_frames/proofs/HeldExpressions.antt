@@ -16,25 +16,25 @@ use Rattle.c_tree.specs.Kinds.{Objects}
 use Rattle.c_tree.specs.Program.{IsStatic, IsProgram}
 use Rattle.c_tree.specs.Typed.{IsStaticOf, IsVariableOf, IsValue, IsPlace, AreMembers, AreArguments, IsCondition}
 use Rattle.c_values.specs.Answers.{Answer, gives, undefined}
-use Rattle.c_meaning_laws.specs.Mentions.{Calls, Direct, Through, mentions, mentions_of_all}
+use Rattle.c_meaning.specs.Mentions.{Calls, Direct, Through, mentions, mentions_of_all}
 use Rattle.c_meaning.specs.Meaning as meaning
 use Rattle.c_meaning.specs.Meaning.{Frame, World, either, name_in, static_name, with_marks, wants, null_call, tested}
 use Rattle.c_meaning.specs.Pointers.{callee, load_place}
 use Rattle.c_meaning.specs.Results.{State, Result, Go, Stop, after, then_do, answered}
 use Rattle.c_meaning.specs.Runs.{no_marks}
 use Rattle.c_meaning.specs.SystemCalls as calls
-use Rattle.c_meaning_laws.specs.StoreTyping.{HasKind, IsPlaced, IsTypedState, Grows, TellsOfStatics, IsTypedFrame}
-use Rattle.c_meaning_laws.specs.TypedResults.{EndsTyped, Gives, GiveAll, StandsIn, IsTypedWorld}
-use Rattle.c_meaning_laws.proofs.Places.{get_left, get_before, grows_on, carry}
-use Rattle.c_meaning_laws.proofs.Steps.{Right, IsCallee, callee_right}
-use Rattle.c_meaning_laws.proofs.Keeps.{Holds, scalar_kind, stands_on, arguments_kind, value_ends, where_ends, all_end, condition_tested}
-use Rattle.c_meaning_laws.proofs.Standing.{left_part, right_part}
-use Rattle.c_meaning_laws.proofs.Expressions.{defined_at}
+use Rattle.c_meaning.specs.StoreTyping.{HasKind, IsPlaced, IsTypedState, Grows, TellsOfStatics, IsTypedFrame}
+use Rattle.c_meaning.specs.TypedResults.{EndsTyped, Gives, GiveAll, StandsIn, IsTypedWorld}
+use Rattle.c_meaning.proofs.Places.{get_left, get_before, grows_on, carry}
+use Rattle.c_meaning.proofs.Steps.{Right, IsCallee, callee_right}
+use Rattle.c_meaning.proofs.Keeps.{Holds, scalar_kind, stands_on, arguments_kind, value_ends, where_ends, all_end, condition_tested}
+use Rattle.c_meaning.proofs.Standing.{left_part, right_part}
+use Rattle.c_meaning.proofs.Expressions.{defined_at}
 use Rattle.ref_machine_frames.specs.Held.{call_undefined, called, called_through, eval, eval_each, eval_all, system_call, system_call_alone}
 use Rattle.ref_machine_frames.proofs.Joining.{after_none, then_nothing}
 use Rattle.ref_machine_frames.proofs.HeldSteps.{whole_same, behind_of_same, decayed_same, member_of_same, difference_same, system_call_same}
-pub use Rattle.c_meaning_laws.proofs.TypedRuns.{none_recorded}
-use Rattle.c_meaning_laws.proofs.Keeps.{undefined_at}
+pub use Rattle.c_meaning.proofs.TypedRuns.{none_recorded}
+use Rattle.c_meaning.proofs.Keeps.{undefined_at}
 
 -- no events stand round a call
 bracket_none : (site : ℕ) (r : Result Value) → with_marks no_marks site r ≡ r

@@ -17,12 +17,12 @@ use Rattle.c_meaning.specs.Meaning.{Frame, Loop, World}
 use Rattle.c_meaning.specs.Results.{State, Result, Stop, then_do, spend_at, Exit, on_round}
 use Rattle.c_meaning.specs.Runs as meaning
 use Rattle.c_meaning.specs.Runs.{no_marks, beginning, ending, entered}
-use Rattle.c_meaning_laws.specs.StoreTyping.{HasKind, IsTypedState, Grows, TellsOfStatics, IsTypedFrame}
-use Rattle.c_meaning_laws.specs.TypedResults.{IsExit, StandsRound, IsTypedWorld}
-use Rattle.c_meaning_laws.proofs.Places.{grows_on}
-use Rattle.c_meaning_laws.proofs.Keeps.{Holds, stands_on, condition_ends, perhaps_ends, exec_ends}
-use Rattle.c_meaning_laws.proofs.Standing.{body_stands}
-use Rattle.c_meaning_laws.proofs.Worlds.{opens, body_typed, parts_typed, runs_begin_typed}
+use Rattle.c_meaning.specs.StoreTyping.{HasKind, IsTypedState, Grows, TellsOfStatics, IsTypedFrame}
+use Rattle.c_meaning.specs.TypedResults.{IsExit, StandsRound, IsTypedWorld}
+use Rattle.c_meaning.proofs.Places.{grows_on}
+use Rattle.c_meaning.proofs.Keeps.{Holds, stands_on, condition_ends, perhaps_ends, exec_ends}
+use Rattle.c_meaning.proofs.Standing.{body_stands}
+use Rattle.c_meaning.proofs.Worlds.{opens, body_typed, parts_typed, runs_begin_typed}
 use Rattle.ref_machine_frames.specs.Held.{perhaps, exec, run_body, run_few, enter, loop, world}
 use Rattle.ref_machine_frames.proofs.HeldExpressions.{none_recorded, then_same, either_same, EnterAlike}
 use Rattle.ref_machine_frames.proofs.HeldStatements.{AgainAlike, round_same, exec_same, condition_same, perhaps_same}

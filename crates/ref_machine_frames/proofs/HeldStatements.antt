@@ -10,16 +10,16 @@ use Rattle.c_tree.specs.Program.{IsProgram}
 use Rattle.c_tree.specs.Typed.{IsTest, IsStep, AreInits, IsDeclare, IsFirst, AreFirst, IsStmt, AreStmts, AreGroups}
 use Rattle.c_values.specs.Answers.{gives}
 use Rattle.c_values.specs.Memory.{declared}
-use Rattle.c_meaning_laws.specs.Mentions.{mentions, mentions_of_maybe, mentions_of_inits, mentions_of_stmt, mentions_of_stmts, mentions_of_groups}
+use Rattle.c_meaning.specs.Mentions.{mentions, mentions_of_maybe, mentions_of_inits, mentions_of_stmt, mentions_of_stmts, mentions_of_groups}
 use Rattle.c_meaning.specs.Meaning as meaning
 use Rattle.c_meaning.specs.Meaning.{Frame, Loop, World, name_in, leaving, declared_in, selected, tested}
 use Rattle.c_meaning.specs.Results.{State, with_memory, Result, Go, then_do, answered, Exit, on, broken, continued, returned, on_exit, on_round}
 use Rattle.c_meaning.specs.Runs.{no_marks}
-use Rattle.c_meaning_laws.specs.StoreTyping.{IsTypedState, Grows, IsTypedFrame}
-use Rattle.c_meaning_laws.specs.TypedResults.{EndsTyped, IsExit, StandsIn, StandsRound, IsTypedWorld}
-use Rattle.c_meaning_laws.proofs.Places.{flat_scalar, grows_on}
-use Rattle.c_meaning_laws.proofs.Keeps.{scalar_kind, cell_ends, fresh_ends, first_ends, exec_ends, stmts_end, groups_end}
-use Rattle.c_meaning_laws.proofs.Standing.{left_part, right_part, stands_empty}
+use Rattle.c_meaning.specs.StoreTyping.{IsTypedState, Grows, IsTypedFrame}
+use Rattle.c_meaning.specs.TypedResults.{EndsTyped, IsExit, StandsIn, StandsRound, IsTypedWorld}
+use Rattle.c_meaning.proofs.Places.{flat_scalar, grows_on}
+use Rattle.c_meaning.proofs.Keeps.{scalar_kind, cell_ends, fresh_ends, first_ends, exec_ends, stmts_end, groups_end}
+use Rattle.c_meaning.proofs.Standing.{left_part, right_part, stands_empty}
 use Rattle.ref_machine_frames.specs.Cells.{few_cells}
 use Rattle.ref_machine_frames.specs.Held.{condition, perhaps, initialise, fresh, exec, exec_all, exec_from}
 use Rattle.ref_machine_frames.proofs.HeldSteps.{few_same}

@@ -22,11 +22,11 @@ use Rattle.c_meaning.specs.Pointers.{place, member, to_first, difference}
 use Rattle.c_meaning.specs.Results.{State, Stop}
 use Rattle.c_meaning.specs.SystemCalls as calls
 use Rattle.dm_base.specs.declared.outcome.Outcome.TheVariants.{Undefined}
-use Rattle.c_meaning_laws.proofs.Members.{and_left, and_right}
-use Rattle.c_meaning_laws.specs.StoreTyping.{HasKind, IsPlaced}
-use Rattle.c_meaning_laws.proofs.Differences.{has_cell, difference_right}
-use Rattle.c_meaning_laws.proofs.Places.{element_object, lies_within}
-use Rattle.c_meaning_laws.proofs.Steps.{Right, behind_of_right, field_right}
+use Rattle.c_meaning.proofs.Members.{and_left, and_right}
+use Rattle.c_meaning.specs.StoreTyping.{HasKind, IsPlaced}
+use Rattle.c_meaning.proofs.Differences.{has_cell, difference_right}
+use Rattle.c_meaning.proofs.Places.{element_object, lies_within}
+use Rattle.c_meaning.proofs.Steps.{Right, behind_of_right, field_right}
 use Rattle.ref_machine_frames.specs.Words.{in_words, held}
 use Rattle.ref_machine_frames.specs.Cells.{few_cells}
 use Rattle.ref_machine_frames.specs.Held.{whole, behind_of, decayed, member_of, system_call}

@@ -19,7 +19,7 @@ use Rattle.c_meaning.specs.SystemCalls.{Request, request, exit_call}
 use Rattle.ref_machine_frames.specs.Words.{held}
 use Rattle.ref_machine_frames.specs.Cells.{few_cells}
 use Rattle.ref_machine_frames.specs.Held.{whole, behind_of, decayed, member_of, system_call, call_undefined, called, called_through, eval, eval_each, eval_all, condition, perhaps, initialise, fresh, exec, exec_all, exec_from, run_body, enter, loop, world}
-use Rattle.c_meaning_laws.proofs.Agreeing.{Same, same_more, then_agree, answered_agree, remembered_agree, either_agree, if_agree, tested_agree, spend_agree, exit_agree, round_agree, null_agree, result_agree, take_agree, ended_agree}
+use Rattle.c_meaning.proofs.Agreeing.{Same, same_more, then_agree, answered_agree, remembered_agree, either_agree, if_agree, tested_agree, spend_agree, exit_agree, round_agree, null_agree, result_agree, take_agree, ended_agree}
 
 module _ (p : Program) (left : ℕ) where
   abbrev Agree : {A : Type 0} → Result A → Result A → Type 0

@@ -7,11 +7,11 @@ use Rattle.std.proofs.lemmas.Bool.{false≢true, le-leb}
 use Rattle.std.proofs.lemmas.Bool.Decides.{eqb_tells}
 use Rattle.c_tree.specs.Functions.{defined, value_type}
 use Rattle.c_tree.specs.Tree.{Program}
-use Rattle.c_meaning_laws.specs.CallGraph.{is_in, has_one, functions_of, is_taken, is_typed, reaches, callee_at, called_where, candidates, marked_where, marked}
-use Rattle.c_meaning_laws.specs.Mentions.{Callee, Direct, Through, mentions_of_program}
-use Rattle.c_meaning_laws.proofs.Rounds.{enough}
+use Rattle.c_meaning.specs.CallGraph.{is_in, has_one, functions_of, is_taken, is_typed, reaches, callee_at, called_where, candidates, marked_where, marked}
+use Rattle.c_meaning.specs.Mentions.{Callee, Direct, Through, mentions_of_program}
+use Rattle.c_meaning.proofs.Rounds.{enough}
 use Rattle.site_lines.specs.SiteLines.{is_system_call, kind_of_site}
-use Rattle.c_meaning_laws.proofs.Members.{or_left, or_right}
+use Rattle.c_meaning.proofs.Members.{or_left, or_right}
 
 -- ## Members
 

@@ -7,10 +7,10 @@ use Rattle.c_syntax.specs.declared.tree.Item.{Item as ItemTree}
 use Rattle.c_syntax.specs.UnitView.{items_of}
 use Rattle.c_tree.specs.Sites.{sites_of_program}
 use Rattle.c_tree.specs.Tree.{Program}
-use Rattle.call_places.specs.CallPlaces.{CallPlace, call_places}
-use Rattle.call_places.specs.Seen.{place_seen, seen}
-use Rattle.call_places.specs.declared.place.CallPlace.{CallPlace as Found}
-use Rattle.c_meaning_laws.specs.CallGraph.{candidates}
+use Rattle.c_rules.specs.CallPlaces.{CallPlace, call_places}
+use Rattle.c_check_counts.specs.SeenCalls.{place_seen, seen}
+use Rattle.c_check_counts.specs.declared.call_place.CallPlace.{CallPlace as Found}
+use Rattle.c_meaning.specs.CallGraph.{candidates}
 use Rattle.site_lines.specs.SiteLines.{name_behind, site_line, site_lines, sites_text}
 use Rattle.site_lines.specs.Parts.{site_front, line_at}
 use Rattle.site_lines.proofs.PartLemmas.{five}

@@ -2,7 +2,7 @@
 use Rattle.std.proofs.Common.{◌≡◌, ℕ, List, ◌++◌, Result, Ok, Err, OnOk, ap, ap₂, ◌∙◌}
 use Rattle.std.specs.Prelude.{codes, decimal, flat_map}
 use Rattle.std.proofs.lemmas.List.{append_assoc}
-use Rattle.c_meaning_laws.specs.CallGraph.{candidates}
+use Rattle.c_meaning.specs.CallGraph.{candidates}
 use Rattle.c_tree.specs.Tree.{Program}
 use Rattle.site_lines.specs.SiteLines.{kind_of_site, name_behind}
 use Rattle.site_lines.specs.Parts.{site_front, site_end}

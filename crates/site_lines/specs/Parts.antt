@@ -2,7 +2,7 @@
 use Rattle.std.specs.Prelude.{ℕ, List, ◌++◌, flat_map, codes, decimal}
 use Rattle.text_places.specs.Locations.{SourceLocation, location_text}
 use Rattle.c_tree.specs.Tree.{Program}
-use Rattle.c_meaning_laws.specs.CallGraph.{candidates}
+use Rattle.c_meaning.specs.CallGraph.{candidates}
 use Rattle.site_lines.specs.SiteLines.{kind_of_site, name_behind}
 
 -- what stands before the location

@@ -4,9 +4,9 @@ use Rattle.text_places.specs.Locations.{located, location_text}
 use Rattle.c_syntax.specs.Tree.{Items}
 use Rattle.c_tree.specs.Functions.{defined, name_of_function}
 use Rattle.c_tree.specs.Tree.{Program}
-use Rattle.c_meaning_laws.specs.CallGraph.{callee_at, candidates, marked}
-use Rattle.c_meaning_laws.specs.Mentions.{Callee, Direct, Through, mentions_of_program}
-use Rattle.call_places.specs.CallPlaces.{CallPlace, call_places}
+use Rattle.c_meaning.specs.CallGraph.{callee_at, candidates, marked}
+use Rattle.c_meaning.specs.Mentions.{Callee, Direct, Through, mentions_of_program}
+use Rattle.c_rules.specs.CallPlaces.{CallPlace, call_places}
 
 -- what is called is a system call, by its name
 abbrev pub is_system_call : Program → Option Callee → Bool

@@ -2,17 +2,17 @@ ghost use Rattle.std.specs.Prelude.{◌≡◌, length, IfOk};
 ghost use Rattle.c_syntax.specs.UnitView.{items_of};
 ghost use Rattle.c_tree.specs.Sites.{sites_of_program};
 ghost use Rattle.c_tree.specs.View.{program_of};
-ghost use Rattle.call_graph.specs.Calls.{AreCallsOf};
-ghost use Rattle.call_places.specs.CallPlaces.{call_places};
-ghost use Rattle.call_places.specs.Seen.{seen};
+ghost use Rattle.flow_graph.specs.Calls.{AreCallsOf};
+ghost use Rattle.c_rules.specs.CallPlaces.{call_places};
+ghost use Rattle.c_check_counts.specs.SeenCalls.{seen};
 ghost use Rattle.site_lines.specs.SiteLines.{site_lines, sites_text};
 
 use crate::site::push_site;
+use c_check_counts::{CallPlace, places_of_calls};
 use c_syntax::Unit;
 use c_tree::Program;
-use call_graph::Calls;
-use call_places::{CallPlace, places_of_calls};
 use dm_base::OutOfMemory;
+use flow_graph::Calls;
 use std::alloc::Global;
 use text_places::Locator;
 

@@ -3,13 +3,13 @@ ghost use Rattle.text_places.specs.Views.{location_of};
 ghost use Rattle.c_tree.specs.Functions.{defined};
 ghost use Rattle.c_tree.specs.Tree.{Program as Tree};
 ghost use Rattle.c_tree.specs.View.{program_of};
-ghost use Rattle.call_graph.specs.Calls.{AreCallsOf};
+ghost use Rattle.flow_graph.specs.Calls.{AreCallsOf};
 ghost use Rattle.site_lines.specs.SiteLines.{kind_of_site, name_behind};
 ghost use Rattle.site_lines.specs.Parts.{site_front, site_end, line_at};
 
 use c_tree::Program;
-use call_graph::Calls;
 use dm_base::OutOfMemory;
+use flow_graph::Calls;
 use line_text::{push_bytes, push_decimal};
 use std::alloc::Global;
 use text_places::{Location, push_location};

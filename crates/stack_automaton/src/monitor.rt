@@ -23,10 +23,18 @@ use std::alloc::Global;
 /// The monitor of the abstract-stack model. Seen as its last answer, which is Kept at first and never
 /// Bound, and a key of the pool. While its history is accepted, just the configurations after the
 /// history are held from the key, which may be infinitely many.
-#[derive(Drop)]
 pub struct StackMonitor {
     last: Step,
     at: usize,
+}
+
+impl Drop for StackMonitor {
+    fn drop(self) {
+        let Self {
+            last: _last,
+            at: _at,
+        } = self;
+    }
 }
 
 impl std::marker::Model for StackMonitor {

@@ -14,8 +14,8 @@ use Rattle.tool_steps.specs.Refused.{IsRefused}
 use Rattle.c_check_values.specs.declared.error.CheckError.{CheckError}
 use Rattle.c_check_values.specs.declared.error.CheckError.TheVariants.{At}
 use Rattle.c_meaning.specs.Runs.{Run, run}
-use Rattle.c_meaning_laws.specs.Laws.{IsTypedRun, RunsAreTyped}
-use Rattle.c_meaning_laws.specs.TypedResults.{IsEnding}
+use Rattle.c_meaning.specs.Laws.{IsTypedRun, RunsAreTyped}
+use Rattle.c_meaning.specs.TypedResults.{IsEnding}
 use Rattle.c_rules.specs.Units.{IsTyped}
 use Rattle.c_syntax.specs.Tree.{Items}
 use Rattle.c_syntax.specs.UnitView.{items_of}
@@ -23,7 +23,7 @@ use Rattle.c_tree.specs.Program.{IsProgram}
 use Rattle.c_tree.specs.Tree.{Program}
 use Rattle.c_tree.specs.View.{program_of}
 use Rattle.flow_model.specs.Graph.{Graph}
-use Rattle.c_meaning_laws.specs.GraphOfProgram.{graph_of_program}
+use Rattle.c_meaning.specs.GraphOfProgram.{graph_of_program}
 use Rattle.headline.specs.LexicalTexts.{InstrumentedUnitsAreLexical}
 use Rattle.null_calls_laws.specs.Instrumented.{instrumented_unit}
 use Rattle.tool_steps.specs.Run.{Run as Found}

@@ -7,7 +7,7 @@ use Rattle.null_calls_laws.specs.MarkedRuns.{marked_run}
 use Rattle.c_rules.specs.Accepted.{IsAcceptedAs}
 use Rattle.c_tree.specs.Tree.{Program}
 use Rattle.c_tree.specs.View.{program_of}
-use Rattle.c_meaning_laws.specs.GraphOfProgram.{graph_of_program}
+use Rattle.c_meaning.specs.GraphOfProgram.{graph_of_program}
 use Rattle.tool_steps.specs.Results.{AreSomeResults}
 use Rattle.tool_steps.specs.ResultsStops.{RefusesResultsAlone}
 use Rattle.tool_steps.specs.Source.{Source}

@@ -16,7 +16,7 @@ use Rattle.c_rules.specs.Accepted.{IsAcceptedAs}
 use Rattle.c_meaning.specs.Runs.{Run}
 use Rattle.c_tree.specs.Tree.{Program}
 use Rattle.null_calls_laws.specs.MarkedRuns.{marked_run}
-use Rattle.c_meaning_laws.specs.GraphOfProgram.{graph_of_program}
+use Rattle.c_meaning.specs.GraphOfProgram.{graph_of_program}
 use Rattle.tool_monitors.specs.Judged.{status_of, verdict_lines}
 use Rattle.report.specs.Precision.{IsNext, next_text}
 use Rattle.tool_steps.specs.Results.{run_text, AreSomeResults, results_refusal}

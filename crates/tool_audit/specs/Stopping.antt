@@ -1,7 +1,7 @@
 -- For private contracts and proofs alone: why a program is not audited.
 use Rattle.std.specs.Prelude.{◌≡◌, ◌<◌}
 use Rattle.c_tree.specs.Tree.{Program}
-use Rattle.c_meaning_laws.specs.GraphOfProgram.{graph_of_program}
+use Rattle.c_meaning.specs.GraphOfProgram.{graph_of_program}
 use Rattle.tool_steps.specs.ModelTexts.{many_nodes}
 use Rattle.tool_steps.specs.ModelStops.{IsStopBy}
 use Rattle.tool_frame.specs.declared.stop.Stop.{Stop}

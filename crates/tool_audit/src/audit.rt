@@ -4,7 +4,7 @@ ghost use Rattle.tool_audit.specs.Audit.{AreReported, Audits, IsAuditOf, IsAudit
 ghost use Rattle.tool_audit.specs.Stopping.{StopsAuditing};
 ghost use Rattle.c_tree.specs.View.{program_of};
 ghost use Rattle.dm_base.specs.declared.mode.Mode.TheVariants.{Plain};
-ghost use Rattle.c_meaning_laws.specs.GraphOfProgram.{graph_of_program};
+ghost use Rattle.c_meaning.specs.GraphOfProgram.{graph_of_program};
 ghost use Rattle.tool_steps.specs.WholeRuns.{run_of};
 ghost use Rattle.tool_steps.specs.Sources.{IsSourceOf};
 ghost use Rattle.tool_frame.specs.Stop.{Stops};
@@ -12,7 +12,7 @@ ghost use Rattle.tool_frame.specs.Stop.{Stops};
 use crate::following::{Followed, followed_run};
 use crate::programs::instrumented_program;
 use crate::reports::report;
-use c_meaning_laws::values_have_kinds;
+use c_meaning::values_have_kinds;
 use dm_base::{Mode, OutOfMemory, Status, TraceEnd};
 use dm_io::Store;
 use headline::texts_raise_no_alarm;

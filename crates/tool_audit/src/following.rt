@@ -3,7 +3,7 @@ ghost use Rattle.c_meaning.specs.Runs.{run};
 ghost use Rattle.c_tree.specs.View.{program_of};
 ghost use Rattle.tool_steps.specs.WholeRuns.{run_of};
 
-use c_meaning_laws::values_have_kinds;
+use c_meaning::values_have_kinds;
 use c_tree::Program;
 use dm_base::OutOfMemory;
 use flow_model::Model;

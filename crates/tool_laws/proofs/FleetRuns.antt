@@ -3,14 +3,14 @@ use Rattle.std.proofs.Common.{◌≡◌, ℕ, List, take, sym, subst}
 use Rattle.dm_base.specs.declared.event.Event.{Event}
 use Rattle.dm_base.specs.declared.mode.Mode.TheVariants.{Instrumented}
 use Rattle.dm_io.specs.Store.{file_at}
-use Rattle.c_meaning_laws.specs.MarkedRuns.{marked_run}
-use Rattle.c_meaning_laws.specs.Monitors.{IsAcceptedByAll}
+use Rattle.c_meaning.specs.MarkedRuns.{marked_run}
+use Rattle.c_meaning.specs.Monitors.{IsAcceptedByAll}
 use Rattle.c_meaning.specs.Runs.{Run, run}
 use Rattle.c_rules.specs.Accepted.{IsAcceptedAs}
 use Rattle.tool_fleet.specs.Standing.{Standing}
 use Rattle.tool_fleet.specs.Standing.TheVariants as standings
 use Rattle.tool_fleet.specs.Alone.{IsAlone}
-use Rattle.c_meaning_laws.specs.GraphOfProgram.{graph_of_program}
+use Rattle.c_meaning.specs.GraphOfProgram.{graph_of_program}
 use Rattle.flow_model.specs.declared.which.Which.{Which}
 use Rattle.flow_model.specs.declared.which.Which.TheVariants.{Callgraph, Stack, Dyck}
 use Rattle.flow_model.specs.Graph.{Graph}

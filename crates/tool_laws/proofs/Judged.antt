@@ -16,12 +16,12 @@ use Rattle.c_meaning.specs.Runs.{run}
 use Rattle.c_rules.specs.Accepted.{IsAcceptedAs}
 use Rattle.c_tree.specs.Tree.{Program}
 use Rattle.headline.specs.AcceptedRuns.{TextsRaiseNoAlarm}
-use Rattle.c_meaning_laws.specs.Monitors.{IsAcceptedByBoth}
+use Rattle.c_meaning.specs.Monitors.{IsAcceptedByBoth}
 use Rattle.flow_model.specs.declared.which.Which.{Which}
 use Rattle.flow_model.specs.declared.which.Which.TheVariants.{Callgraph, Stack, Dyck}
 use Rattle.flow_model.specs.Graph.{Graph}
 use Rattle.flow_model.specs.Verdict.{IsVerdict}
-use Rattle.c_meaning_laws.specs.GraphOfProgram.{graph_of_program}
+use Rattle.c_meaning.specs.GraphOfProgram.{graph_of_program}
 use Rattle.tool_monitors.specs.declared.asked.Asked.{Asked}
 use Rattle.tool_monitors.specs.declared.asked.Asked.TheVariants as asked
 use Rattle.tool_monitors.specs.Judged.{status_of, status_of_all}

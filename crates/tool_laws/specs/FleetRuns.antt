@@ -10,7 +10,7 @@ use Rattle.c_tree.specs.Tree.{Program}
 use Rattle.tool_fleet.specs.Standing.{Standing}
 use Rattle.tool_fleet.specs.Standing.TheVariants as standings
 use Rattle.fleet_schedule.specs.declared.line.Line.{Line}
-use Rattle.c_meaning_laws.specs.GraphOfProgram.{graph_of_program}
+use Rattle.c_meaning.specs.GraphOfProgram.{graph_of_program}
 use Rattle.flow_model.specs.declared.which.Which.{Which}
 use Rattle.flow_model.specs.declared.which.Which.TheVariants.{Dyck}
 use Rattle.headline.specs.Headline.{IsWithinBound}

@@ -7,7 +7,7 @@ ghost use Rattle.dm_base.specs.declared.outcome.TraceEnd.TheVariants.{Ended};
 ghost use Rattle.tool_frame.specs.Stop.{Stops};
 ghost use Rattle.trace_file.specs.Trace.{IsTrace};
 
-use c_meaning_laws::values_have_kinds;
+use c_meaning::values_have_kinds;
 use c_tree::Program;
 use dm_base::{Mode, OutOfMemory, Status, TraceEnd};
 use dm_io::Store;

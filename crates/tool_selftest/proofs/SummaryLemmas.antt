@@ -1,10 +1,10 @@
 -- Marked sites are counted.
 use Rattle.std.proofs.Common.{◌≡◌, ℕ, ◌+◌, ◌≤◌, Bool, true, false, if◌then◌else◌, List, [], ◌∷◌, ◌++◌, length, length-append, filter, refl, sym, ◌∙◌, ap, arith}
 use Rattle.std.specs.List.{range_with_len}
-use Rattle.c_meaning_laws.specs.CallGraph.{marked}
+use Rattle.c_meaning.specs.CallGraph.{marked}
 use Rattle.c_tree.specs.Program.{IsProgram}
 use Rattle.c_tree.specs.Tree.{Program}
-use Rattle.call_graph.proofs.TypesLemmas.{passed_true, passed_false}
+use Rattle.flow_graph.proofs.TypesLemmas.{passed_true, passed_false}
 use Rattle.generated_program_laws.specs.Bounds.{marked_sites}
 
 pub at_most_one : (b : Bool) (one : ℕ) → one ≡ (if b then 1 else 0) → one ≤ 1

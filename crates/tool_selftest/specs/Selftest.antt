@@ -3,13 +3,13 @@
 use Rattle.std.specs.Prelude.{◌≡◌, ℕ, ◌-◌, List, ◌++◌, length, codes, decimal}
 use Rattle.dm_base.specs.declared.mode.Mode.TheVariants.{Plain}
 use Rattle.dm_base.specs.declared.verdict.Verdict.TheVariants.{Accepted}
-use Rattle.c_meaning_laws.specs.MarkedRuns.{marked_run}
+use Rattle.c_meaning.specs.MarkedRuns.{marked_run}
 use Rattle.c_meaning.specs.Runs.{Run}
 use Rattle.c_rules.specs.Accepted.{IsAcceptedAs}
 use Rattle.c_tree.specs.Functions.{defined}
 use Rattle.c_tree.specs.Sites.{sites_of_program}
 use Rattle.c_tree.specs.Tree.{Program}
-use Rattle.c_meaning_laws.specs.GraphOfProgram.{graph_of_program}
+use Rattle.c_meaning.specs.GraphOfProgram.{graph_of_program}
 use Rattle.generated_program.specs.Generator.{generated_source, generated_results}
 use Rattle.generated_program.specs.Typed.{generated_program}
 use Rattle.generated_program_laws.specs.Bounds.{marked_sites}

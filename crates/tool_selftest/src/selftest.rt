@@ -1,8 +1,8 @@
 ghost use Rattle.std.specs.Prelude.{◌≡◌, ◌≢◌, ◌≤◌, ◌<◌, ℕ, List, IfOk};
-ghost use Rattle.c_meaning_laws.specs.MarkedRuns.{marked_run};
+ghost use Rattle.c_meaning.specs.MarkedRuns.{marked_run};
 ghost use Rattle.c_tree.specs.View.{program_of};
 ghost use Rattle.dm_base.specs.declared.mode.Mode.TheVariants.{Plain};
-ghost use Rattle.c_meaning_laws.specs.GraphOfProgram.{graph_of_program};
+ghost use Rattle.c_meaning.specs.GraphOfProgram.{graph_of_program};
 ghost use Rattle.generated_program.specs.Generator.{generated_source, generated_results as results};
 ghost use Rattle.generated_program.specs.Typed.{generated_program};
 ghost use Rattle.tool_audit.specs.WholeRuns.{run_of};

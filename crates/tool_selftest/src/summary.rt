@@ -4,8 +4,8 @@ ghost use Rattle.generated_program_laws.specs.Bounds.{marked_sites};
 ghost use Rattle.tool_selftest.specs.Summary.{program_counts, run_counts, counts_text};
 
 use c_tree::Program;
-use call_graph::Calls;
 use dm_base::OutOfMemory;
+use flow_graph::Calls;
 use line_text::{push_bytes, push_decimal};
 use std::alloc::Global;
 use tool_audit::Audited;

@@ -9,7 +9,7 @@ use Rattle.c_syntax.specs.UnitView.{items_of}
 use Rattle.c_tree.specs.View.{program_of}
 use Rattle.tool_sources.specs.declared.source.Source.{Source}
 use Rattle.tool_sources.specs.Sources.{IsSourceOf, RefusesSource}
-use Rattle.call_places.specs.AreSites.{AreSitesOf}
+use Rattle.c_rules_laws.specs.AreSites.{AreSitesOf}
 use Rattle.site_lines.specs.SiteLines.{sites_text}
 use Rattle.tool_sites.specs.Sites.{TellsSites, IsReadyToTellSites}
 

@@ -4,7 +4,7 @@ use Rattle.dm_base.specs.declared.mode.Mode.TheVariants.{Plain}
 use Rattle.dm_io.specs.Store.{Files, file_at}
 use Rattle.c_tree.specs.Tree.{Program}
 use Rattle.c_rules.specs.Accepted.{IsAcceptedAs}
-use Rattle.call_places.specs.AreSites.{AreSitesOf}
+use Rattle.c_rules_laws.specs.AreSites.{AreSitesOf}
 use Rattle.site_lines.specs.SiteLines.{sites_text}
 
 -- The file's text is accepted as a program, and these are the lines of the unit's call expressions, which are the sites of the program.

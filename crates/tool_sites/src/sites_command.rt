@@ -6,7 +6,7 @@ ghost use Rattle.tool_frame.specs.Stop.{Stops};
 ghost use Rattle.tool_sources.specs.Sources.{RefusesSource};
 ghost use Rattle.tool_sites.specs.Sites.{TellsSites};
 
-use call_places::call_expressions_are_sites;
+use c_rules_laws::call_expressions_are_sites;
 use dm_base::{Mode, Status};
 use dm_io::{Store, read_whole};
 use site_lines::sites_text;

@@ -1,6 +1,6 @@
 -- What commands make of a program: its model, its text, and why there is none.
 use Rattle.std.specs.Prelude.{◌≡◌, ◌⊎◌, ℕ, ◌<◌, ◌≤◌, List, length, codes}
-use Rattle.c_meaning_laws.specs.ProgramLanguages as programs
+use Rattle.c_meaning.specs.ProgramLanguages as programs
 use Rattle.c_tree.specs.Tree.{Program}
 use Rattle.flow_model.specs.declared.which.Which.TheVariants.{Callgraph, Stack, Dyck}
 use Rattle.flow_model.specs.Graph.{Graph}

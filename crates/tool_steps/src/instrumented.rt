@@ -4,8 +4,8 @@ ghost use Rattle.c_tree.specs.View.{program_of};
 ghost use Rattle.null_calls.specs.Instrumented.{instrumented_unit};
 
 use c_syntax::Item;
-use call_graph::Calls;
 use dm_base::OutOfMemory;
+use flow_graph::Calls;
 use null_calls::instrument;
 use std::alloc::Global;
 use tool_sources::Source;

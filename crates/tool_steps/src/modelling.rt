@@ -5,8 +5,7 @@ ghost use Rattle.tool_steps.specs.ModelTexts.{HasLanguagesOf, IsModelOf, IsModel
 ghost use Rattle.tool_steps.specs.ModelStops.{IsStopWith, StopsBuilding, StopsWriting, StopsModelling};
 
 use c_tree::Program;
-use call_graph::Calls;
-use flow_graph::{BuildError, build};
+use flow_graph::{BuildError, Calls, build};
 use flow_model::Model;
 use model_file::{WriteModelError, write_model};
 use std::alloc::Global;

@@ -12,5 +12,6 @@ use Rattle.c_tree.specs.View.{groups_of, stmt_of}
 
 pub returns : goal.returns
 returns c =
-    laid_as statement_tree_of c.with_variables.result (laid_with (variables_of c.args.gs.variables) (stmt_of (Switch c.in_ok-on.on c.args.gs.groups))) (laid_with (variables_of c.args.gs.variables) (switch_on (tree_of (typed_expression_of c.args.g)) (groups_of c.args.gs.groups.items)))
-    (ap (laid_with (variables_of c.args.gs.variables)) (switch_is c.in_ok-on.on c.args.gs.groups ∙ ap (λ e. switch_on e (groups_of c.args.gs.groups.items)) c.in_ok-on.ensures)) c.with_variables.ensures
+    laid_as statement_tree_of c.with_variables.result (laid_with (variables_of c.into_parts-groups.result.2) (stmt_of (Switch c.in_ok-on.on c.into_parts-groups.result.0))) (laid_with (variables_of c.args.gs.variables) (switch_on (tree_of (typed_expression_of c.args.g)) (groups_of c.args.gs.groups.items)))
+    ((λ i. laid_with (variables_of (c.into_parts-groups.ensures.variables i)) (stmt_of (Switch c.in_ok-on.on (c.into_parts-groups.ensures.groups i))))
+    ∙ ap (laid_with (variables_of c.args.gs.variables)) (switch_is c.in_ok-on.on c.args.gs.groups ∙ ap (λ e. switch_on e (groups_of c.args.gs.groups.items)) c.in_ok-on.ensures)) c.with_variables.ensures

@@ -3,7 +3,7 @@ use Rattle.c_syntax.specs.UnitView.{stmt_of}
 use Rattle.c_syntax.specs.WritesUnit.{block_items_of, stmts_of, groups_of}
 use Rattle.c_check_scopes.specs.Variables.{names_of_stmt, names_of_block, names_of_stmts, names_of_groups}
 use Rattle.c_check_counts.specs.Named.{names_of_block_item, names_of_group}
-use Rattle.c_check_counts.specs.Seen.{seen}
+use Rattle.c_syntax.specs.SeenNames.{seen}
 use Rattle.c_check_counts.proofs.Lists.{names_of_block_flat, names_of_stmts_flat, names_of_groups_flat, all_flat, on_same}
 use Rattle.c_check_counts.proofs.Nodes.{names_in_block, names_in_switch, names_in_group}
 use Rattle.c_check_counts.proofs.names.+names_in.Goals as goal

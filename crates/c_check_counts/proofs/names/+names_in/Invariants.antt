@@ -3,7 +3,7 @@ use Rattle.std.specs.Prelude.{flat_map}
 use Rattle.c_check_counts.specs.Named.{names_of_block_item, names_of_group}
 use Rattle.c_check_scopes.specs.Variables.{names_of_stmt}
 use Rattle.c_syntax.specs.UnitView.{stmt_of}
-use Rattle.c_check_counts.specs.Seen.{seen}
+use Rattle.c_syntax.specs.SeenNames.{seen}
 use Rattle.c_check_counts.proofs.names.+names_in.Given as goal
 
 abbrev pub invariant-add_block-loop-item : goal.invariant-add_block-loop-item

@@ -2,7 +2,7 @@ use Rattle.std.proofs.Common.{◌∷◌, []}
 use Rattle.c_syntax.specs.UnitView.{parts_of}
 use Rattle.c_check_scopes.specs.Variables.{names_of_parts}
 use Rattle.c_check_counts.specs.Named.{name_of_part}
-use Rattle.c_check_counts.specs.Seen.{seen}
+use Rattle.c_syntax.specs.SeenNames.{seen}
 use Rattle.c_check_counts.proofs.Lists.{names_of_parts_flat, all_flat}
 use Rattle.c_check_counts.proofs.names.add_parts.Goals as goal
 

@@ -2,7 +2,7 @@ use Rattle.std.proofs.Common.{◌≡◌, length, arith, ap, ◌∙◌}
 use Rattle.c_check_scopes.specs.Functions.{items_of_body}
 use Rattle.c_check_scopes.specs.Variables.{names_of_block}
 use Rattle.c_syntax.specs.UnitView.{stmt_of}
-use Rattle.c_check_counts.specs.Seen.{seen}
+use Rattle.c_syntax.specs.SeenNames.{seen}
 use Rattle.c_check_counts.proofs.NextLemmas.{few_started, first_are, none_first}
 use Rattle.c_check_counts.proofs.numbers.first_numbers.Goals as goal
 

@@ -1,5 +1,5 @@
 use Rattle.std.proofs.Common.{ap, sym, ◌∙◌, ◌++◌}
-use Rattle.c_check_counts.specs.Seen.{seen}
+use Rattle.c_syntax.specs.SeenNames.{seen}
 use Rattle.c_check_counts.proofs.NameLemmas.{names_in_body}
 use Rattle.c_check_scopes.specs.Variables.{names_of_stmt}
 use Rattle.c_syntax.specs.UnitView.{stmt_of}

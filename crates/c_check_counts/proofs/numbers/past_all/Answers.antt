@@ -1,6 +1,6 @@
 use Rattle.c_check_scopes.specs.Variables.{past_names}
 use Rattle.c_check_counts.specs.Numbered.{next_of}
-use Rattle.c_check_counts.specs.Seen.{seen}
+use Rattle.c_syntax.specs.SeenNames.{seen}
 use Rattle.c_check_counts.proofs.NextLemmas.{one_has, others_have, past_more}
 use Rattle.c_check_counts.proofs.numbers.past_all.Goals as goal
 

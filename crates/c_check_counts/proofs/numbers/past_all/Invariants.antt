@@ -1,7 +1,7 @@
 use Rattle.std.proofs.Common.{◌≡◌, drop}
 use Rattle.c_check_scopes.specs.Variables.{past_names}
 use Rattle.c_check_counts.specs.Numbered.{HaveNumbers, next_of}
-use Rattle.c_check_counts.specs.Seen.{seen}
+use Rattle.c_syntax.specs.SeenNames.{seen}
 use Rattle.c_check_counts.proofs.numbers.past_all.Given as goal
 
 abbrev pub invariant-loop-name : goal.invariant-loop-name

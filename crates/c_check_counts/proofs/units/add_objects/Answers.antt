@@ -1,7 +1,7 @@
 use Rattle.c_syntax.specs.UnitView.{storage_of, parts_of}
 use Rattle.c_check_scopes.specs.Units.{objects_of_parts}
 use Rattle.c_check_counts.specs.Named.{objects_of_part}
-use Rattle.c_check_counts.specs.Seen.{seen}
+use Rattle.c_syntax.specs.SeenNames.{seen}
 use Rattle.c_check_counts.proofs.Lists.{objects_of_parts_flat, all_flat}
 use Rattle.c_check_counts.proofs.units.add_objects.Goals as goal
 

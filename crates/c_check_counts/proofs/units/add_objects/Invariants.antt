@@ -2,7 +2,7 @@ use Rattle.std.proofs.Common.{◌≡◌, ◌++◌, take}
 use Rattle.std.specs.Prelude.{flat_map}
 use Rattle.c_check_counts.specs.Named.{objects_of_part}
 use Rattle.c_syntax.specs.UnitView.{storage_of}
-use Rattle.c_check_counts.specs.Seen.{seen}
+use Rattle.c_syntax.specs.SeenNames.{seen}
 use Rattle.c_check_counts.proofs.units.add_objects.Given as goal
 
 abbrev pub invariant-loop-part : goal.invariant-loop-part

@@ -2,7 +2,7 @@ use Rattle.std.proofs.Common.{◌≡◌, take}
 use Rattle.std.specs.Prelude.{flat_map}
 use Rattle.c_check_scopes.specs.Units.{functions_of_item}
 use Rattle.c_syntax.specs.UnitView.{item_at}
-use Rattle.c_check_counts.specs.Seen.{seen}
+use Rattle.c_syntax.specs.SeenNames.{seen}
 use Rattle.c_check_counts.proofs.units.functions_of.Given as goal
 
 abbrev pub invariant-loop-item : goal.invariant-loop-item

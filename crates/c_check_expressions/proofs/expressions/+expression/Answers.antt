@@ -1,12 +1,13 @@
 use Rattle.std.proofs.Common.{◌≡◌, ◌+◌, [], ◌∷◌, true, false, rules, length, drop, map, refl, sym, ap, subst, ◌∙◌, w32}
 use Rattle.std.proofs.lemmas.Int.{to_z-of_z}
-use Rattle.c_check_counts.proofs.Rows.{type_name_is}
+use Rattle.std.proofs.lemmas.Result.{on_ok_weaker}
+use Rattle.c_syntax.proofs.NodeRows.{type_name_is}
 use Rattle.c_check_types.specs.Agreement.{AgreesWith, Names}
 use Rattle.c_check_types.specs.TypedExpressionView.{typed_expression_of}
 use Rattle.c_check_types.proofs.Parts.{raised, names_on, names_first, names_second}
 use Rattle.c_check_primary.specs.CalleeView.{callee_of}
 use Rattle.c_rules.specs.Assignments.{assignable, assignment_by, comma_of, step}
-use Rattle.c_rules.specs.BinaryExpressions.{choice, conjunction, disjunction, operation, operator_of_code, sum}
+use Rattle.c_rules.specs.BinaryExpressions.{choice}
 use Rattle.c_rules.specs.Checked.{faults, fine, on, both}
 use Rattle.c_rules.specs.Conversions.{valued}
 use Rattle.c_rules.specs.Counts.{after, after_designator, calls, calls_of_all, past, place_of, strings_of_all}
@@ -23,11 +24,11 @@ use Rattle.c_syntax.specs.Writes.{declarator_behind, declarator_in, expr_behind,
 use Rattle.c_syntax.specs.declared.tree.Param.{out-Param}
 use Rattle.c_syntax.specs.declared.tree.TypeName.{out-TypeName}
 use Rattle.c_tree.specs.View.{ctype_of, types_of}
-use Rattle.c_check_expressions.specs.Parts.{name_of_param, onto_givens, onto_types, type_of_param}
+use Rattle.c_check_expressions.specs.Parts.{name_of_param, onto_givens, onto_types, two_rule, type_of_param}
 use Rattle.c_check_expressions.proofs.Exits.{same_ok, kept_then, fails_first, fails_first_of, fails_on, fails_second, fails_second_of, fails_third_of, named_first, named_on, on_ended, on_ok, three_ended, two_ended, counted_as}
 use Rattle.c_check_expressions.proofs.Loops.{counted_more, declares_more, declares_none, name_fails, left_again, parameter_more, parameters_begin, parameters_end, type_fails, value_fails, value_more, values_begin, values_end}
-use Rattle.c_check_expressions.proofs.NodeLemmas.{after-And, after-Arrow, after-Assign, after-Binary, after-Call, after-Cast, after-Char, after-Comma, after-Cond, after-Index, after-Int, after-Member, after-Name, after-Or, after-PostDec, after-PostInc, after-PreDec, after-PreInc, after-SizeofExpr, after-SizeofType, after-Str, after-Unary, counted_all, past_designator, place_is}
-use Rattle.c_check_expressions.proofs.Trees.{declared-Array, declared-Function, declared-Pointer, operand_fails, tree-Name, tree-Int, tree-Char, box_place, unary_is, declared-Name, tree-And, tree-Arrow, tree-Assign, tree-Binary, tree-Call, tree-Cast, tree-Comma, tree-Cond, tree-Index, tree-Member, tree-Or, tree-PostDec, tree-PostInc, tree-PreDec, tree-PreInc, tree-SizeofExpr, tree-SizeofType, tree-Str, tree-Unary, type_place}
+use Rattle.c_check_expressions.proofs.NodeLemmas.{after-Arrow, after-Assign, after-Call, after-Cast, after-Char, after-Comma, after-Cond, after-Int, after-Member, after-Name, after-PostDec, after-PostInc, after-PreDec, after-PreInc, after-SizeofExpr, after-SizeofType, after-Str, after-Unary, after_two, counted_all, past_designator, place_is}
+use Rattle.c_check_expressions.proofs.Trees.{declared-Array, declared-Function, declared-Pointer, operand_fails, tree-Name, tree-Int, tree-Char, box_place, unary_is, declared-Name, tree-Arrow, tree-Assign, tree-Call, tree-Cast, tree-Comma, tree-Cond, tree-Member, tree-PostDec, tree-PostInc, tree-PreDec, tree-PreInc, tree-SizeofExpr, tree-SizeofType, tree-Str, tree-Unary, tree_of_two, type_place}
 use Rattle.c_check_expressions.proofs.expressions.+expression.Goals as goal
 
 pub tree-returns-in-Name-clause-judged : goal.tree-returns-in-Name-clause-judged
@@ -280,83 +281,23 @@ tree-returns-in_ok-given-in-Unary-clause-kept t c =
 
 pub tree-returns-in_err-left-in-Index-clause-judged : goal.tree-returns-in_err-left-in-Index-clause-judged
 tree-returns-in_err-left-in-Index-clause-judged t c =
-    fails_on typed_expression_of c.from_residual-in_err-left-in-Index.result c.in_err-left-in-Index.field-0.0 (tree (env_of c.args.env.now) (before_of c.args.before.now) (expr_of c.args.e.now)) (both (value (env_of c.args.env.now) (before_of c.args.before.now) (expr_of c.deref-in-Index.result.now)) (value (env_of c.args.env.now) (after (before_of c.args.before.now) (expr_of c.deref-in-Index.result.now)) (expr_of c.in-Index.b.value)) (sum (env_of c.args.env.now) c.args.e.now.at)) (indirection c.args.e.now.at) c.from_residual-in_err-left-in-Index.ensures (tree-Index (env_of c.args.env.now) (before_of c.args.before.now) c.args.e.now c.in-Index.a c.in-Index.b c.deref-in-Index.result.now c.in-Index.b.value c.in-Index.is c.deref-in-Index.ensures refl) (names_first c.in_err-left-in-Index.field-0.0 (value (env_of c.args.env.now) (before_of c.args.before.now) (expr_of c.deref-in-Index.result.now)) (value (env_of c.args.env.now) (after (before_of c.args.before.now) (expr_of c.deref-in-Index.result.now)) (expr_of c.in-Index.b.value)) (sum (env_of c.args.env.now) c.args.e.now.at) c.in_err-left-in-Index.ensures.judged)
+    fails_first typed_expression_of c.from_residual-in_err-left-in-Index.result c.in_err-left-in-Index.field-0.0 (tree (env_of c.args.env.now) (before_of c.args.before.now) (expr_of c.args.e.now)) (value (env_of c.args.env.now) (before_of c.args.before.now) (expr_of c.deref-in-Index.result.now)) (value (env_of c.args.env.now) (after (before_of c.args.before.now) (expr_of c.deref-in-Index.result.now)) (expr_of c.in-Index.b.value)) (two_rule (env_of c.args.env.now) (expr_of c.args.e.now)) c.from_residual-in_err-left-in-Index.ensures (tree_of_two (env_of c.args.env.now) (before_of c.args.before.now) c.args.e.now c.in-Index.a c.in-Index.b c.deref-in-Index.result.now c.in-Index.b.value c.in-Index.is c.deref-in-Index.ensures refl) c.in_err-left-in-Index.ensures.judged
 
 pub tree-returns-in_err-right-in-Index-clause-judged : goal.tree-returns-in_err-right-in-Index-clause-judged
 tree-returns-in_err-right-in-Index-clause-judged t c =
-    fails_on typed_expression_of c.from_residual-in_err-right-in-Index.result c.in_err-right-in-Index.field-0.0 (tree (env_of c.args.env.now) (before_of c.args.before.now) (expr_of c.args.e.now)) (both (value (env_of c.args.env.now) (before_of c.args.before.now) (expr_of c.deref-in-Index.result.now)) (value (env_of c.args.env.now) (after (before_of c.args.before.now) (expr_of c.deref-in-Index.result.now)) (expr_of c.deref-in-Index-2.result.now)) (sum (env_of c.args.env.now) c.args.e.now.at)) (indirection c.args.e.now.at) c.from_residual-in_err-right-in-Index.ensures (tree-Index (env_of c.args.env.now) (before_of c.args.before.now) c.args.e.now c.in-Index.a c.in-Index.b c.deref-in-Index.result.now c.deref-in-Index-2.result.now c.in-Index.is c.deref-in-Index.ensures c.deref-in-Index-2.ensures) (names_second c.in_err-right-in-Index.field-0.0 (value (env_of c.args.env.now) (before_of c.args.before.now) (expr_of c.deref-in-Index.result.now)) (value (env_of c.args.env.now) (after (before_of c.args.before.now) (expr_of c.deref-in-Index.result.now)) (expr_of c.deref-in-Index-2.result.now)) (sum (env_of c.args.env.now) c.args.e.now.at) (subst (λ r. Names c.in_err-right-in-Index.field-0.0 (faults r)) (λ i. value (env_of (c.in_ok-left-in-Index.ensures.kept i)) (c.in_ok-left-in-Index.ensures.counted i) (expr_of c.deref-in-Index-2.result.now)) c.in_err-right-in-Index.ensures.judged))
+    fails_second typed_expression_of c.from_residual-in_err-right-in-Index.result c.in_err-right-in-Index.field-0.0 (tree (env_of c.args.env.now) (before_of c.args.before.now) (expr_of c.args.e.now)) (value (env_of c.args.env.now) (before_of c.args.before.now) (expr_of c.deref-in-Index.result.now)) (value (env_of c.args.env.now) (after (before_of c.args.before.now) (expr_of c.deref-in-Index.result.now)) (expr_of c.deref-in-Index-2.result.now)) (value (env_of c.value-in-Index.new.env) (before_of c.value-in-Index.new.before) (expr_of c.deref-in-Index-2.result.now)) (two_rule (env_of c.args.env.now) (expr_of c.args.e.now)) c.from_residual-in_err-right-in-Index.ensures (tree_of_two (env_of c.args.env.now) (before_of c.args.before.now) c.args.e.now c.in-Index.a c.in-Index.b c.deref-in-Index.result.now c.deref-in-Index-2.result.now c.in-Index.is c.deref-in-Index.ensures c.deref-in-Index-2.ensures) (λ i. value (env_of (c.in_ok-left-in-Index.ensures.kept i)) (c.in_ok-left-in-Index.ensures.counted i) (expr_of c.deref-in-Index-2.result.now)) c.in_err-right-in-Index.ensures.judged
 
 pub tree-returns-in_ok-right-in-Index-clause-judged : goal.tree-returns-in_ok-right-in-Index-clause-judged
 tree-returns-in_ok-right-in-Index-clause-judged t c =
-    subst (AgreesWith typed_expression_of c.index_given.result) ((λ i. on (sum (env_of ((c.in_ok-right-in-Index.ensures.kept ∙ c.in_ok-left-in-Index.ensures.kept) i)) c.args.e.now.at (typed_expression_of c.in_ok-left-in-Index.left) (typed_expression_of c.in_ok-right-in-Index.right)) (indirection c.args.e.now.at)) ∙ (λ i. on (both (sym c.in_ok-left-in-Index.ensures.judged i) (sym (sym (λ i. value (env_of (c.in_ok-left-in-Index.ensures.kept i)) (c.in_ok-left-in-Index.ensures.counted i) (expr_of c.deref-in-Index-2.result.now)) ∙ c.in_ok-right-in-Index.ensures.judged) i) (sum (env_of c.args.env.now) c.args.e.now.at)) (indirection c.args.e.now.at)) ∙ sym (tree-Index (env_of c.args.env.now) (before_of c.args.before.now) c.args.e.now c.in-Index.a c.in-Index.b c.deref-in-Index.result.now c.deref-in-Index-2.result.now c.in-Index.is c.deref-in-Index.ensures c.deref-in-Index-2.ensures)) c.index_given.ensures
+    two_ended typed_expression_of c.two_given.result (tree (env_of c.args.env.now) (before_of c.args.before.now) (expr_of c.args.e.now)) (value (env_of c.args.env.now) (before_of c.args.before.now) (expr_of c.deref-in-Index.result.now)) (value (env_of c.args.env.now) (before_of c.args.before.now) (expr_of c.deref-in-Index.result.now)) (value (env_of c.args.env.now) (after (before_of c.args.before.now) (expr_of c.deref-in-Index.result.now)) (expr_of c.deref-in-Index-2.result.now)) (value (env_of c.value-in-Index.new.env) (before_of c.value-in-Index.new.before) (expr_of c.deref-in-Index-2.result.now)) (two_rule (env_of c.args.env.now) (expr_of c.args.e.now)) (typed_expression_of c.in_ok-left-in-Index.left) (typed_expression_of c.in_ok-right-in-Index.right) (two_rule (env_of c.value-in-Index-2.new.env) (expr_of c.args.e.now) (typed_expression_of c.in_ok-left-in-Index.left) (typed_expression_of c.in_ok-right-in-Index.right)) (tree_of_two (env_of c.args.env.now) (before_of c.args.before.now) c.args.e.now c.in-Index.a c.in-Index.b c.deref-in-Index.result.now c.deref-in-Index-2.result.now c.in-Index.is c.deref-in-Index.ensures c.deref-in-Index-2.ensures) refl c.in_ok-left-in-Index.ensures.judged (λ i. value (env_of (c.in_ok-left-in-Index.ensures.kept i)) (c.in_ok-left-in-Index.ensures.counted i) (expr_of c.deref-in-Index-2.result.now)) c.in_ok-right-in-Index.ensures.judged (λ i. two_rule (env_of ((c.in_ok-right-in-Index.ensures.kept ∙ c.in_ok-left-in-Index.ensures.kept) i)) (expr_of c.args.e.now) (typed_expression_of c.in_ok-left-in-Index.left) (typed_expression_of c.in_ok-right-in-Index.right)) c.two_given.ensures
 
 pub tree-returns-in_ok-right-in-Index-clause-counted : goal.tree-returns-in_ok-right-in-Index-clause-counted
 tree-returns-in_ok-right-in-Index-clause-counted t c =
-    on_ok c.index_given.result _ (c.in_ok-right-in-Index.ensures.counted ∙ ap (λ b. after b (expr_of c.deref-in-Index-2.result.now)) c.in_ok-left-in-Index.ensures.counted ∙ sym (after-Index (before_of c.args.before.now) c.args.e.now c.in-Index.a c.in-Index.b c.deref-in-Index.result.now c.deref-in-Index-2.result.now c.in-Index.is c.deref-in-Index.ensures c.deref-in-Index-2.ensures))
+    on_ok c.two_given.result _ (c.in_ok-right-in-Index.ensures.counted ∙ ap (λ b. after b (expr_of c.deref-in-Index-2.result.now)) c.in_ok-left-in-Index.ensures.counted ∙ sym (after_two (before_of c.args.before.now) c.args.e.now c.in-Index.a c.in-Index.b c.deref-in-Index.result.now c.deref-in-Index-2.result.now c.in-Index.is c.deref-in-Index.ensures c.deref-in-Index-2.ensures))
 
 pub tree-returns-in_ok-right-in-Index-clause-kept : goal.tree-returns-in_ok-right-in-Index-clause-kept
 tree-returns-in_ok-right-in-Index-clause-kept t c =
-    on_ok c.index_given.result _ (c.in_ok-right-in-Index.ensures.kept ∙ c.in_ok-left-in-Index.ensures.kept)
-
-pub tree-returns-in_err-left-in-And-clause-judged : goal.tree-returns-in_err-left-in-And-clause-judged
-tree-returns-in_err-left-in-And-clause-judged t c =
-    fails_first typed_expression_of c.from_residual-in_err-left-in-And.result c.in_err-left-in-And.field-0.0 (tree (env_of c.args.env.now) (before_of c.args.before.now) (expr_of c.args.e.now)) (value (env_of c.args.env.now) (before_of c.args.before.now) (expr_of c.deref-in-And.result.now)) (value (env_of c.args.env.now) (after (before_of c.args.before.now) (expr_of c.deref-in-And.result.now)) (expr_of c.in-And.b.value)) (conjunction c.args.e.now.at) c.from_residual-in_err-left-in-And.ensures (tree-And (env_of c.args.env.now) (before_of c.args.before.now) c.args.e.now c.in-And.a c.in-And.b c.deref-in-And.result.now c.in-And.b.value c.in-And.is c.deref-in-And.ensures refl) c.in_err-left-in-And.ensures.judged
-
-pub tree-returns-in_err-right-in-And-clause-judged : goal.tree-returns-in_err-right-in-And-clause-judged
-tree-returns-in_err-right-in-And-clause-judged t c =
-    fails_second typed_expression_of c.from_residual-in_err-right-in-And.result c.in_err-right-in-And.field-0.0 (tree (env_of c.args.env.now) (before_of c.args.before.now) (expr_of c.args.e.now)) (value (env_of c.args.env.now) (before_of c.args.before.now) (expr_of c.deref-in-And.result.now)) (value (env_of c.args.env.now) (after (before_of c.args.before.now) (expr_of c.deref-in-And.result.now)) (expr_of c.deref-in-And-2.result.now)) (value (env_of c.value-in-And.new.env) (before_of c.value-in-And.new.before) (expr_of c.deref-in-And-2.result.now)) (conjunction c.args.e.now.at) c.from_residual-in_err-right-in-And.ensures (tree-And (env_of c.args.env.now) (before_of c.args.before.now) c.args.e.now c.in-And.a c.in-And.b c.deref-in-And.result.now c.deref-in-And-2.result.now c.in-And.is c.deref-in-And.ensures c.deref-in-And-2.ensures) (λ i. value (env_of (c.in_ok-left-in-And.ensures.kept i)) (c.in_ok-left-in-And.ensures.counted i) (expr_of c.deref-in-And-2.result.now)) c.in_err-right-in-And.ensures.judged
-
-pub tree-returns-in_ok-right-in-And-clause-judged : goal.tree-returns-in_ok-right-in-And-clause-judged
-tree-returns-in_ok-right-in-And-clause-judged t c =
-    two_ended typed_expression_of c.conjunction.result (tree (env_of c.args.env.now) (before_of c.args.before.now) (expr_of c.args.e.now)) (value (env_of c.args.env.now) (before_of c.args.before.now) (expr_of c.deref-in-And.result.now)) (value (env_of c.args.env.now) (before_of c.args.before.now) (expr_of c.deref-in-And.result.now)) (value (env_of c.args.env.now) (after (before_of c.args.before.now) (expr_of c.deref-in-And.result.now)) (expr_of c.deref-in-And-2.result.now)) (value (env_of c.value-in-And.new.env) (before_of c.value-in-And.new.before) (expr_of c.deref-in-And-2.result.now)) (conjunction c.args.e.now.at) (typed_expression_of c.in_ok-left-in-And.left) (typed_expression_of c.in_ok-right-in-And.right) (conjunction c.args.e.now.at (typed_expression_of c.in_ok-left-in-And.left) (typed_expression_of c.in_ok-right-in-And.right)) (tree-And (env_of c.args.env.now) (before_of c.args.before.now) c.args.e.now c.in-And.a c.in-And.b c.deref-in-And.result.now c.deref-in-And-2.result.now c.in-And.is c.deref-in-And.ensures c.deref-in-And-2.ensures) refl c.in_ok-left-in-And.ensures.judged (λ i. value (env_of (c.in_ok-left-in-And.ensures.kept i)) (c.in_ok-left-in-And.ensures.counted i) (expr_of c.deref-in-And-2.result.now)) c.in_ok-right-in-And.ensures.judged refl c.conjunction.ensures
-
-pub tree-returns-in_ok-right-in-And-clause-counted : goal.tree-returns-in_ok-right-in-And-clause-counted
-tree-returns-in_ok-right-in-And-clause-counted t c =
-    on_ok c.conjunction.result _ (c.in_ok-right-in-And.ensures.counted ∙ ap (λ b. after b (expr_of c.deref-in-And-2.result.now)) c.in_ok-left-in-And.ensures.counted ∙ sym (after-And (before_of c.args.before.now) c.args.e.now c.in-And.a c.in-And.b c.deref-in-And.result.now c.deref-in-And-2.result.now c.in-And.is c.deref-in-And.ensures c.deref-in-And-2.ensures))
-
-pub tree-returns-in_ok-right-in-And-clause-kept : goal.tree-returns-in_ok-right-in-And-clause-kept
-tree-returns-in_ok-right-in-And-clause-kept t c =
-    on_ok c.conjunction.result _ (c.in_ok-right-in-And.ensures.kept ∙ c.in_ok-left-in-And.ensures.kept)
-
-pub tree-returns-in_err-left-in-Or-clause-judged : goal.tree-returns-in_err-left-in-Or-clause-judged
-tree-returns-in_err-left-in-Or-clause-judged t c =
-    fails_first typed_expression_of c.from_residual-in_err-left-in-Or.result c.in_err-left-in-Or.field-0.0 (tree (env_of c.args.env.now) (before_of c.args.before.now) (expr_of c.args.e.now)) (value (env_of c.args.env.now) (before_of c.args.before.now) (expr_of c.deref-in-Or.result.now)) (value (env_of c.args.env.now) (after (before_of c.args.before.now) (expr_of c.deref-in-Or.result.now)) (expr_of c.in-Or.b.value)) (disjunction c.args.e.now.at) c.from_residual-in_err-left-in-Or.ensures (tree-Or (env_of c.args.env.now) (before_of c.args.before.now) c.args.e.now c.in-Or.a c.in-Or.b c.deref-in-Or.result.now c.in-Or.b.value c.in-Or.is c.deref-in-Or.ensures refl) c.in_err-left-in-Or.ensures.judged
-
-pub tree-returns-in_err-right-in-Or-clause-judged : goal.tree-returns-in_err-right-in-Or-clause-judged
-tree-returns-in_err-right-in-Or-clause-judged t c =
-    fails_second typed_expression_of c.from_residual-in_err-right-in-Or.result c.in_err-right-in-Or.field-0.0 (tree (env_of c.args.env.now) (before_of c.args.before.now) (expr_of c.args.e.now)) (value (env_of c.args.env.now) (before_of c.args.before.now) (expr_of c.deref-in-Or.result.now)) (value (env_of c.args.env.now) (after (before_of c.args.before.now) (expr_of c.deref-in-Or.result.now)) (expr_of c.deref-in-Or-2.result.now)) (value (env_of c.value-in-Or.new.env) (before_of c.value-in-Or.new.before) (expr_of c.deref-in-Or-2.result.now)) (disjunction c.args.e.now.at) c.from_residual-in_err-right-in-Or.ensures (tree-Or (env_of c.args.env.now) (before_of c.args.before.now) c.args.e.now c.in-Or.a c.in-Or.b c.deref-in-Or.result.now c.deref-in-Or-2.result.now c.in-Or.is c.deref-in-Or.ensures c.deref-in-Or-2.ensures) (λ i. value (env_of (c.in_ok-left-in-Or.ensures.kept i)) (c.in_ok-left-in-Or.ensures.counted i) (expr_of c.deref-in-Or-2.result.now)) c.in_err-right-in-Or.ensures.judged
-
-pub tree-returns-in_ok-right-in-Or-clause-judged : goal.tree-returns-in_ok-right-in-Or-clause-judged
-tree-returns-in_ok-right-in-Or-clause-judged t c =
-    two_ended typed_expression_of c.disjunction.result (tree (env_of c.args.env.now) (before_of c.args.before.now) (expr_of c.args.e.now)) (value (env_of c.args.env.now) (before_of c.args.before.now) (expr_of c.deref-in-Or.result.now)) (value (env_of c.args.env.now) (before_of c.args.before.now) (expr_of c.deref-in-Or.result.now)) (value (env_of c.args.env.now) (after (before_of c.args.before.now) (expr_of c.deref-in-Or.result.now)) (expr_of c.deref-in-Or-2.result.now)) (value (env_of c.value-in-Or.new.env) (before_of c.value-in-Or.new.before) (expr_of c.deref-in-Or-2.result.now)) (disjunction c.args.e.now.at) (typed_expression_of c.in_ok-left-in-Or.left) (typed_expression_of c.in_ok-right-in-Or.right) (disjunction c.args.e.now.at (typed_expression_of c.in_ok-left-in-Or.left) (typed_expression_of c.in_ok-right-in-Or.right)) (tree-Or (env_of c.args.env.now) (before_of c.args.before.now) c.args.e.now c.in-Or.a c.in-Or.b c.deref-in-Or.result.now c.deref-in-Or-2.result.now c.in-Or.is c.deref-in-Or.ensures c.deref-in-Or-2.ensures) refl c.in_ok-left-in-Or.ensures.judged (λ i. value (env_of (c.in_ok-left-in-Or.ensures.kept i)) (c.in_ok-left-in-Or.ensures.counted i) (expr_of c.deref-in-Or-2.result.now)) c.in_ok-right-in-Or.ensures.judged refl c.disjunction.ensures
-
-pub tree-returns-in_ok-right-in-Or-clause-counted : goal.tree-returns-in_ok-right-in-Or-clause-counted
-tree-returns-in_ok-right-in-Or-clause-counted t c =
-    on_ok c.disjunction.result _ (c.in_ok-right-in-Or.ensures.counted ∙ ap (λ b. after b (expr_of c.deref-in-Or-2.result.now)) c.in_ok-left-in-Or.ensures.counted ∙ sym (after-Or (before_of c.args.before.now) c.args.e.now c.in-Or.a c.in-Or.b c.deref-in-Or.result.now c.deref-in-Or-2.result.now c.in-Or.is c.deref-in-Or.ensures c.deref-in-Or-2.ensures))
-
-pub tree-returns-in_ok-right-in-Or-clause-kept : goal.tree-returns-in_ok-right-in-Or-clause-kept
-tree-returns-in_ok-right-in-Or-clause-kept t c =
-    on_ok c.disjunction.result _ (c.in_ok-right-in-Or.ensures.kept ∙ c.in_ok-left-in-Or.ensures.kept)
-
-pub tree-returns-in_err-left-in-Binary-clause-judged : goal.tree-returns-in_err-left-in-Binary-clause-judged
-tree-returns-in_err-left-in-Binary-clause-judged t c =
-    fails_first typed_expression_of c.from_residual-in_err-left-in-Binary.result c.in_err-left-in-Binary.field-0.0 (tree (env_of c.args.env.now) (before_of c.args.before.now) (expr_of c.args.e.now)) (value (env_of c.args.env.now) (before_of c.args.before.now) (expr_of c.deref-in-Binary.result.now)) (value (env_of c.args.env.now) (after (before_of c.args.before.now) (expr_of c.deref-in-Binary.result.now)) (expr_of c.in-Binary.b.value)) (operation (env_of c.args.env.now) c.args.e.now.at (operator_of_code c.in-Binary.op)) c.from_residual-in_err-left-in-Binary.ensures (tree-Binary (env_of c.args.env.now) (before_of c.args.before.now) c.args.e.now c.in-Binary.op c.in-Binary.a c.in-Binary.b c.deref-in-Binary.result.now c.in-Binary.b.value c.in-Binary.is c.deref-in-Binary.ensures refl) c.in_err-left-in-Binary.ensures.judged
-
-pub tree-returns-in_err-right-in-Binary-clause-judged : goal.tree-returns-in_err-right-in-Binary-clause-judged
-tree-returns-in_err-right-in-Binary-clause-judged t c =
-    fails_second typed_expression_of c.from_residual-in_err-right-in-Binary.result c.in_err-right-in-Binary.field-0.0 (tree (env_of c.args.env.now) (before_of c.args.before.now) (expr_of c.args.e.now)) (value (env_of c.args.env.now) (before_of c.args.before.now) (expr_of c.deref-in-Binary.result.now)) (value (env_of c.args.env.now) (after (before_of c.args.before.now) (expr_of c.deref-in-Binary.result.now)) (expr_of c.deref-in-Binary-2.result.now)) (value (env_of c.value-in-Binary.new.env) (before_of c.value-in-Binary.new.before) (expr_of c.deref-in-Binary-2.result.now)) (operation (env_of c.args.env.now) c.args.e.now.at (operator_of_code c.in-Binary.op)) c.from_residual-in_err-right-in-Binary.ensures (tree-Binary (env_of c.args.env.now) (before_of c.args.before.now) c.args.e.now c.in-Binary.op c.in-Binary.a c.in-Binary.b c.deref-in-Binary.result.now c.deref-in-Binary-2.result.now c.in-Binary.is c.deref-in-Binary.ensures c.deref-in-Binary-2.ensures) (λ i. value (env_of (c.in_ok-left-in-Binary.ensures.kept i)) (c.in_ok-left-in-Binary.ensures.counted i) (expr_of c.deref-in-Binary-2.result.now)) c.in_err-right-in-Binary.ensures.judged
-
-pub tree-returns-in_ok-right-in-Binary-clause-judged : goal.tree-returns-in_ok-right-in-Binary-clause-judged
-tree-returns-in_ok-right-in-Binary-clause-judged t c =
-    two_ended typed_expression_of c.operation.result (tree (env_of c.args.env.now) (before_of c.args.before.now) (expr_of c.args.e.now)) (value (env_of c.args.env.now) (before_of c.args.before.now) (expr_of c.deref-in-Binary.result.now)) (value (env_of c.args.env.now) (before_of c.args.before.now) (expr_of c.deref-in-Binary.result.now)) (value (env_of c.args.env.now) (after (before_of c.args.before.now) (expr_of c.deref-in-Binary.result.now)) (expr_of c.deref-in-Binary-2.result.now)) (value (env_of c.value-in-Binary.new.env) (before_of c.value-in-Binary.new.before) (expr_of c.deref-in-Binary-2.result.now)) (operation (env_of c.args.env.now) c.args.e.now.at (operator_of_code c.in-Binary.op)) (typed_expression_of c.in_ok-left-in-Binary.left) (typed_expression_of c.in_ok-right-in-Binary.right) (operation (env_of c.value-in-Binary-2.new.env) c.args.e.now.at c.operator_of_code.result (typed_expression_of c.in_ok-left-in-Binary.left) (typed_expression_of c.in_ok-right-in-Binary.right)) (tree-Binary (env_of c.args.env.now) (before_of c.args.before.now) c.args.e.now c.in-Binary.op c.in-Binary.a c.in-Binary.b c.deref-in-Binary.result.now c.deref-in-Binary-2.result.now c.in-Binary.is c.deref-in-Binary.ensures c.deref-in-Binary-2.ensures) refl c.in_ok-left-in-Binary.ensures.judged (λ i. value (env_of (c.in_ok-left-in-Binary.ensures.kept i)) (c.in_ok-left-in-Binary.ensures.counted i) (expr_of c.deref-in-Binary-2.result.now)) c.in_ok-right-in-Binary.ensures.judged (λ i. operation (env_of ((c.in_ok-right-in-Binary.ensures.kept ∙ c.in_ok-left-in-Binary.ensures.kept) i)) c.args.e.now.at (c.operator_of_code.ensures i) (typed_expression_of c.in_ok-left-in-Binary.left) (typed_expression_of c.in_ok-right-in-Binary.right)) c.operation.ensures
-
-pub tree-returns-in_ok-right-in-Binary-clause-counted : goal.tree-returns-in_ok-right-in-Binary-clause-counted
-tree-returns-in_ok-right-in-Binary-clause-counted t c =
-    on_ok c.operation.result _ (c.in_ok-right-in-Binary.ensures.counted ∙ ap (λ b. after b (expr_of c.deref-in-Binary-2.result.now)) c.in_ok-left-in-Binary.ensures.counted ∙ sym (after-Binary (before_of c.args.before.now) c.args.e.now c.in-Binary.op c.in-Binary.a c.in-Binary.b c.deref-in-Binary.result.now c.deref-in-Binary-2.result.now c.in-Binary.is c.deref-in-Binary.ensures c.deref-in-Binary-2.ensures))
-
-pub tree-returns-in_ok-right-in-Binary-clause-kept : goal.tree-returns-in_ok-right-in-Binary-clause-kept
-tree-returns-in_ok-right-in-Binary-clause-kept t c =
-    on_ok c.operation.result _ (c.in_ok-right-in-Binary.ensures.kept ∙ c.in_ok-left-in-Binary.ensures.kept)
+    on_ok c.two_given.result _ (c.in_ok-right-in-Index.ensures.kept ∙ c.in_ok-left-in-Index.ensures.kept)
 
 pub tree-returns-in_err-target-in-Assign-clause-judged : goal.tree-returns-in_err-target-in-Assign-clause-judged
 tree-returns-in_err-target-in-Assign-clause-judged t c =
@@ -434,29 +375,21 @@ pub place-returns-clause-kept : goal.place-returns-clause-kept
 place-returns-clause-kept t c =
     on_ok c.assignable.result _ (c.in_ok-given.ensures.kept)
 
-pub unevaluated-returns-in_err-given-clause-judged : goal.unevaluated-returns-in_err-given-clause-judged
-unevaluated-returns-in_err-given-clause-judged t c =
-    raised typed_expression_of _ c.from_residual.result c.in_err-given.field-0.0 c.from_residual.ensures (subst (λ b. Names c.in_err-given.field-0.0 (faults (tree (in_context (env_of c.args.env.now) sized) b (expr_of c.args.e.now)))) c.nothing_before-before.ensures c.in_err-given.ensures.judged)
-
 pub unevaluated-returns-clause-judged : goal.unevaluated-returns-clause-judged
 unevaluated-returns-clause-judged t c =
-    ap (λ b. tree (in_context (env_of c.args.env.now) sized) b (expr_of c.args.e.now)) (sym c.nothing_before-before.ensures) ∙ c.in_ok-given.ensures.judged
+    subst (λ b. AgreesWith typed_expression_of c.tree-given.result (tree (in_context (env_of c.args.env.now) sized) b (expr_of c.args.e.now))) c.nothing_before-before.ensures c.tree-given.ensures.judged
 
 pub unevaluated-returns-clause-kept : goal.unevaluated-returns-clause-kept
 unevaluated-returns-clause-kept t c =
-    ap (λ v. (λ (w : Environment). record w { context = c.args.env.now.context }) v) c.in_ok-given.ensures.kept
-
-pub folded_value-returns-in_err-given-clause-judged : goal.folded_value-returns-in_err-given-clause-judged
-folded_value-returns-in_err-given-clause-judged t c =
-    raised typed_expression_of _ c.from_residual.result c.in_err-given.field-0.0 c.from_residual.ensures (subst (λ b. Names c.in_err-given.field-0.0 (faults (value (in_context (env_of c.args.env.now) folded) b (expr_of c.args.e.now)))) c.nothing_before-before.ensures c.in_err-given.ensures.judged)
+    on_ok_weaker c.tree-given.result (λ q. ap (λ v. (λ (w : Environment). record w { context = c.args.env.now.context }) v) q) c.tree-given.ensures.kept
 
 pub folded_value-returns-clause-judged : goal.folded_value-returns-clause-judged
 folded_value-returns-clause-judged t c =
-    ap (λ b. value (in_context (env_of c.args.env.now) folded) b (expr_of c.args.e.now)) (sym c.nothing_before-before.ensures) ∙ c.in_ok-given.ensures.judged
+    subst (λ b. AgreesWith typed_expression_of c.value-given.result (value (in_context (env_of c.args.env.now) folded) b (expr_of c.args.e.now))) c.nothing_before-before.ensures c.value-given.ensures.judged
 
 pub folded_value-returns-clause-kept : goal.folded_value-returns-clause-kept
 folded_value-returns-clause-kept t c =
-    ap (λ v. (λ (w : Environment). record w { context = c.args.env.now.context }) v) c.in_ok-given.ensures.kept
+    on_ok_weaker c.value-given.result (λ q. ap (λ v. (λ (w : Environment). record w { context = c.args.env.now.context }) v) q) c.value-given.ensures.kept
 
 pub values-returns-in_err-one-clause-judged : goal.values-returns-in_err-one-clause-judged
 values-returns-in_err-one-clause-judged t c =
@@ -661,14 +594,10 @@ pub parameters-loop-p-init : goal.parameters-loop-p-init
 parameters-loop-p-init t c =
     record { found = parameters_begin (parameters (env_of c.args.env.now) 0 (params_of c.args.params.now)) ∙ ap (λ l. onto_types l (parameters (env_of c.args.env.now) 0 (params_of c.args.params.now))) (sym c.new-types.ensures.items); kept = declares_none c.args.env.now }
 
-pub parameters_apart-returns-in_err-types-clause-judged : goal.parameters_apart-returns-in_err-types-clause-judged
-parameters_apart-returns-in_err-types-clause-judged t c =
-    raised (λ v. types_of v.items) _ c.from_residual-in_err-types.result c.in_err-types.field-0.0 c.from_residual-in_err-types.ensures (subst (λ d. Names c.in_err-types.field-0.0 (faults (parameters ((λ (w : Env). record w { depth = d }) (env_of c.args.env.now)) 0 (params_of c.args.params.now)))) c.in_ok-depth.ensures c.in_err-types.ensures.judged)
-
 pub parameters_apart-returns-clause-judged : goal.parameters_apart-returns-clause-judged
 parameters_apart-returns-clause-judged t c =
-    ap (λ d. parameters ((λ (w : Env). record w { depth = d }) (env_of c.args.env.now)) 0 (params_of c.args.params.now)) (sym c.in_ok-depth.ensures) ∙ c.in_ok-types.ensures.judged
+    subst (λ d. AgreesWith (λ v. types_of v.items) c.parameters-types.result (parameters ((λ (w : Env). record w { depth = d }) (env_of c.args.env.now)) 0 (params_of c.args.params.now))) (c.replace-outer.ensures.after ∙ c.in_ok-depth.ensures) c.parameters-types.ensures.judged
 
 pub parameters_apart-returns-clause-kept : goal.parameters_apart-returns-clause-kept
 parameters_apart-returns-clause-kept t c =
-    left_again c.args.env.now c.parameters.new.env c.leave.new.self c.in_ok-depth.depth c.in_ok-outer.outer c.in_ok-outer.ensures c.in_ok-types.ensures.kept (λ inner outer p q. c.leave.ensures inner outer p (q ∙ sym c.len-count.ensures))
+    on_ok_weaker c.parameters-types.result (λ q. left_again c.args.env.now c.parameters-types.new.env c.leave.new.self c.replace-outer.new.dest c.replace-outer.result c.replace-outer.ensures.value q (λ inner outer p h. c.leave.ensures inner outer p (h ∙ sym c.len-count.ensures))) c.parameters-types.ensures.kept

@@ -1,13 +1,14 @@
-use Rattle.std.proofs.Common.{false, sym, subst, ◌∙◌}
+use Rattle.std.proofs.Common.{false, ap, sym, subst, ◌∙◌}
 use Rattle.c_check_bodies.specs.Numbered.{next_of}
 use Rattle.c_check_declarations.specs.Agreement.{Names}
 use Rattle.c_check_declarations.proofs.Parts.{names_on, raised}
-use Rattle.c_check_bodies.specs.StatementTreeView.{statement_trees_of, statement_tree_of}
+use Rattle.c_check_bodies.specs.StatementTreeView.{statement_trees_of}
 use Rattle.c_rules.specs.Blocks.{alone}
-use Rattle.c_rules.specs.Checked.{faults, fine}
+use Rattle.c_rules.specs.Checked.{faults, fine, gives}
 use Rattle.c_rules.specs.Statements.{items_of_block, stmt}
 use Rattle.c_check_scopes.specs.View.{before_of, env_of}
-use Rattle.c_check_statements.proofs.NodeLemmas.{after_alone, alone_only, gives_as}
+use Rattle.c_check_expressions.proofs.Exits.{on_ok}
+use Rattle.c_check_statements.proofs.NodeLemmas.{after_alone, alone_only, found_as}
 use Rattle.c_syntax.specs.Tree.{block_stmt, no_block_items}
 use Rattle.c_syntax.specs.UnitView.{stmt_of}
 use Rattle.c_tree.specs.View.{ctype_of}
@@ -19,8 +20,11 @@ returns-in_err-one-clause-judged c =
 
 pub returns-clause-judged : goal.returns-clause-judged
 returns-clause-judged c =
-    alone_only (env_of c.args.env.now) (record { breaks = false; continues = false; returns = ctype_of c.args.returns.now }) (before_of c.args.before.now) (next_of c.args.next) (stmt_of c.args.s.now) ∙ gives_as (stmt (env_of c.args.env.now) (record { breaks = false; continues = false; returns = ctype_of c.args.returns.now }) (before_of c.args.before.now) (next_of c.args.next) (stmt_of c.args.s.now)) alone (statement_tree_of c.in_ok-one.one) _ c.in_ok-one.ensures.judged c.in_ok-alone.ensures
+    found_as statement_trees_of c.all_found.result _ _ (alone_only (env_of c.args.env.now) (record { breaks = false; continues = false; returns = ctype_of c.args.returns.now }) (before_of c.args.before.now) (next_of c.args.next) (stmt_of c.args.s.now) ∙ ap (λ r. gives r alone) c.in_ok-one.ensures.judged) (c.all_found.ensures _ c.alone.ensures)
 
 pub returns-clause-counted : goal.returns-clause-counted
 returns-clause-counted c =
-    c.in_ok-one.ensures.counted ∙ after_alone (env_of c.args.env.now) (before_of c.args.before.now) (next_of c.args.next) (stmt_of c.args.s.now)
+    on_ok c.all_found.result _ (c.in_ok-one.ensures.counted ∙ after_alone (env_of c.args.env.now) (before_of c.args.before.now) (next_of c.args.next) (stmt_of c.args.s.now))
+
+pub returns-clause-kept : goal.returns-clause-kept
+returns-clause-kept c = on_ok c.all_found.result _ c.in_ok-one.ensures.kept

@@ -1,4 +1,4 @@
-use Rattle.std.proofs.Common.{rules, ◌≡◌, [], OnOk, refl, ap, sym, subst, ◌∙◌}
+use Rattle.std.proofs.Common.{rules, ◌≡◌, [], OnOk, refl, ap, sym, subst, ◌∙◌, append-nil}
 use Rattle.c_check_bodies.specs.Named.{names_of_block_item, names_of_group}
 use Rattle.c_check_bodies.proofs.NextLemmas.{later_have}
 use Rattle.c_check_bodies.specs.Numbered.{HaveNumbers, next_of}
@@ -8,8 +8,8 @@ use Rattle.c_check_declarations.proofs.Parts.{names_on, raised}
 use Rattle.c_check_bodies.specs.AroundView.{around_of}
 use Rattle.c_check_bodies.specs.LabelledView.{labelled_before, labelled_of}
 use Rattle.c_check_bodies.specs.StatementTreeView.{statement_trees_of, statement_tree_of}
-use Rattle.c_rules.specs.Blocks.{after_first, after_stmt, after_stmts, alone, behind_first, held_by_block, held_by_groups, held_by_stmts, joined, with_tree}
-use Rattle.c_rules.specs.Checked.{all_three, beside, both, faults, fine, on}
+use Rattle.c_rules.specs.Blocks.{after_first, after_stmt, after_stmts, alone, bare, behind_first, held_by_block, held_by_groups, held_by_stmts, joined, with_tree}
+use Rattle.c_rules.specs.Checked.{all_three, beside, both, faults, fine, gives, on}
 use Rattle.c_rules.specs.Counts.{after, after_maybe, past}
 use Rattle.c_rules.specs.Expressions.{value}
 use Rattle.c_rules.specs.Scopes.{inside}
@@ -21,7 +21,7 @@ use Rattle.c_check_statements.specs.Ruled.{after_for, for_inside, group_behind, 
 use Rattle.c_check_statements.specs.Two.{tested_of}
 use Rattle.c_check_expressions.proofs.Exits.{fails_first, fails_first_of, fails_on, fails_second, fails_second_of, fails_third_of, named_first, on_ok, two_ended}
 use Rattle.c_check_statements.proofs.HavingLemmas.{body_has, group_has, groups_left, item_has, items_left, stmts_left}
-use Rattle.c_check_statements.proofs.NodeLemmas.{after_do, after_else, after_parts, after_switch, after_while, block_seen, declared_as, declared_deeper, declared_more, deeper, gives_as, if_fails, if_seen, numbered_alone, ok_as, switch_seen}
+use Rattle.c_check_statements.proofs.NodeLemmas.{after_do, after_else, after_parts, after_switch, after_while, block_seen, declared_as, declared_deeper, declared_more, found_as, if_fails, if_seen, numbered_alone, ok_as, switch_seen}
 use Rattle.c_check_statements.proofs.PartLemmas.{names_of_two, two_as}
 use Rattle.c_check_expressions.proofs.NodeLemmas.{past_none}
 use Rattle.c_check_statements.proofs.StatementLemmas.{item_counted, item_fails, item_more, item_numbered, items_counted_end, items_end, items_numbered_end, laid_start, names_append, onto_laid, stmt_counted, stmt_fails, stmt_more, stmt_numbered, stmts_counted_end, stmts_end, stmts_numbered_end}
@@ -38,19 +38,23 @@ use Rattle.c_tree.specs.View.{expr_of as expr_seen}
 pub block_statement-returns-in_err-laid-clause-judged : goal.block_statement-returns-in_err-laid-clause-judged
 block_statement-returns-in_err-laid-clause-judged t c =
     raised statement_tree_of (stmt (env_of c.args.env.now) (around_of c.args.around.now) (before_of c.args.before.now) (next_of c.args.next.now) (block c.args.at (block_items_of c.args.items.now))) c.from_residual-in_err-laid.result c.in_err-laid.field-0.0 c.from_residual-in_err-laid.ensures
-    (names_on c.in_err-laid.field-0.0 (items_of_block (inside (env_of c.args.env.now)) (around_of c.args.around.now) (before_of c.args.before.now) (next_of c.args.next.now) (block_items_of c.args.items.now)) (λ p. fine (with_tree p (typed.block p.tree))) (subst (λ v. Names c.in_err-laid.field-0.0 (faults (items_of_block v (around_of c.args.around.now) (before_of c.args.before.now) (next_of c.args.next.now) (block_items_of c.args.items.now)))) (deeper c.args.env.now c.in_ok-deeper.deeper c.in_ok-deeper.ensures) c.in_err-laid.ensures.judged))
+    (names_on c.in_err-laid.field-0.0 (items_of_block (inside (env_of c.args.env.now)) (around_of c.args.around.now) (before_of c.args.before.now) (next_of c.args.next.now) (block_items_of c.args.items.now)) (λ p. fine (with_tree p (typed.block p.tree))) (subst (λ v. Names c.in_err-laid.field-0.0 (faults (items_of_block v (around_of c.args.around.now) (before_of c.args.before.now) (next_of c.args.next.now) (block_items_of c.args.items.now)))) (ap env_of c.in_ok-depth.ensures.entered) c.in_err-laid.ensures.judged))
 
 pub block_statement-returns-clause-judged : goal.block_statement-returns-clause-judged
 block_statement-returns-clause-judged t c =
-    gives_as (items_of_block (inside (env_of c.args.env.now)) (around_of c.args.around.now) (before_of c.args.before.now) (next_of c.args.next.now) (block_items_of c.args.items.now)) (λ p. with_tree p (typed.block p.tree)) (statement_trees_of c.in_ok-laid.laid) _ (ap (λ v. items_of_block v (around_of c.args.around.now) (before_of c.args.before.now) (next_of c.args.next.now) (block_items_of c.args.items.now)) (sym (deeper c.args.env.now c.in_ok-deeper.deeper c.in_ok-deeper.ensures)) ∙ c.in_ok-laid.ensures.judged) c.in_ok-block.ensures
+    found_as statement_tree_of c.found.result _ _ (ap (λ r. gives r (λ p. with_tree p (typed.block p.tree))) (ap (λ v. items_of_block v (around_of c.args.around.now) (before_of c.args.before.now) (next_of c.args.next.now) (block_items_of c.args.items.now)) (sym (ap env_of c.in_ok-depth.ensures.entered)) ∙ c.in_ok-laid.ensures.judged)) (c.found.ensures _ c.block.ensures)
 
 pub block_statement-returns-clause-counted : goal.block_statement-returns-clause-counted
 block_statement-returns-clause-counted t c =
-    c.in_ok-laid.ensures.counted ∙ ap (λ v. past (before_of c.args.before.now) (calls_of_block (block_items_of c.args.items.now)) (held_by_block v (next_of c.args.next.now) (block_items_of c.args.items.now))) (deeper c.args.env.now c.in_ok-deeper.deeper c.in_ok-deeper.ensures)
+    on_ok c.found.result _ (c.in_ok-laid.ensures.counted ∙ ap (λ v. past (before_of c.args.before.now) (calls_of_block (block_items_of c.args.items.now)) (held_by_block v (next_of c.args.next.now) (block_items_of c.args.items.now))) (ap env_of c.in_ok-depth.ensures.entered))
+
+pub block_statement-returns-clause-numbered : goal.block_statement-returns-clause-numbered
+block_statement-returns-clause-numbered t c =
+    on_ok c.found.result _ c.in_ok-laid.ensures.numbered
 
 pub block_statement-returns-clause-kept : goal.block_statement-returns-clause-kept
 block_statement-returns-clause-kept t c =
-    c.leave_block.ensures c.args.env.now (declared_deeper c.args.env.now c.items_of_block.new.env c.in_ok-deeper.deeper c.in_ok-deeper.ensures c.in_ok-laid.ensures.kept) (sym c.len-count.ensures) (sym c.in_ok-depth.ensures)
+    on_ok c.found.result _ (c.leave_block.ensures c.args.env.now (declared_deeper c.args.env.now c.items_of_block.new.env c.enter_block.new.env c.in_ok-depth.ensures.entered c.in_ok-laid.ensures.kept) (sym c.len-count.ensures) (sym c.in_ok-depth.ensures.before))
 
 pub tested-returns-in_err-condition-clause-judged : goal.tested-returns-in_err-condition-clause-judged
 tested-returns-in_err-condition-clause-judged t c =
@@ -78,7 +82,19 @@ else_part-returns-in_err-no-clause-judged t c =
 
 pub else_part-returns-clause-judged : goal.else_part-returns-clause-judged
 else_part-returns-clause-judged t c =
-    ap (λ r. on r (λ q. fine (joined (statement_tree_of c.args.yes) q (typed.if_else (expr_seen c.args.test) (statement_tree_of c.args.yes).tree q.tree)))) c.in_ok-no.ensures.judged ∙ ap fine (sym c.in_ok-if_else.ensures)
+    found_as statement_tree_of c.found.result _ _ (ap (λ r. on r (λ q. fine (joined (statement_tree_of c.args.yes) q (typed.if_else (expr_seen c.args.test) (statement_tree_of c.args.yes).tree q.tree)))) c.in_ok-no.ensures.judged) (c.found.ensures _ c.if_else.ensures)
+
+pub else_part-returns-clause-counted : goal.else_part-returns-clause-counted
+else_part-returns-clause-counted t c =
+    on_ok c.found.result _ c.in_ok-no.ensures.counted
+
+pub else_part-returns-clause-numbered : goal.else_part-returns-clause-numbered
+else_part-returns-clause-numbered t c =
+    on_ok c.found.result _ c.in_ok-no.ensures.numbered
+
+pub else_part-returns-clause-kept : goal.else_part-returns-clause-kept
+else_part-returns-clause-kept t c =
+    on_ok c.found.result _ c.in_ok-no.ensures.kept
 
 pub while_statement-returns-in_err-parts-clause-judged : goal.while_statement-returns-in_err-parts-clause-judged
 while_statement-returns-in_err-parts-clause-judged t c =
@@ -86,11 +102,19 @@ while_statement-returns-in_err-parts-clause-judged t c =
 
 pub while_statement-returns-clause-judged : goal.while_statement-returns-clause-judged
 while_statement-returns-clause-judged t c =
-    two_as (condition_at c.args.at (value (env_of c.args.env.now) (before_of c.args.before.now) (expr_of c.args.test.now))) (stmt (env_of c.args.env.now) (in_loop (around_of c.args.around.now)) (after (before_of c.args.before.now) (expr_of c.args.test.now)) (next_of c.args.next.now) (stmt_of c.args.body.now)) (λ d p. fine (with_tree p (typed.while_loop d p.tree))) (tested_of c.in_ok-parts.parts) (ap (λ a. tested (env_of c.args.env.now) a (before_of c.args.before.now) (next_of c.args.next.now) c.args.at (expr_of c.args.test.now) (stmt_of c.args.body.now)) (sym c.in_loop-inner.ensures) ∙ c.in_ok-parts.ensures.judged) ∙ ap fine (sym c.in_ok-while_loop.ensures)
+    found_as statement_tree_of c.found.result _ _ (two_as (condition_at c.args.at (value (env_of c.args.env.now) (before_of c.args.before.now) (expr_of c.args.test.now))) (stmt (env_of c.args.env.now) (in_loop (around_of c.args.around.now)) (after (before_of c.args.before.now) (expr_of c.args.test.now)) (next_of c.args.next.now) (stmt_of c.args.body.now)) (λ d p. fine (with_tree p (typed.while_loop d p.tree))) (tested_of c.in_ok-parts.parts) (ap (λ a. tested (env_of c.args.env.now) a (before_of c.args.before.now) (next_of c.args.next.now) c.args.at (expr_of c.args.test.now) (stmt_of c.args.body.now)) (sym c.in_loop-inner.ensures) ∙ c.in_ok-parts.ensures.judged)) (c.found.ensures _ c.while_loop.ensures)
 
 pub while_statement-returns-clause-counted : goal.while_statement-returns-clause-counted
 while_statement-returns-clause-counted t c =
-    c.in_ok-parts.ensures.counted ∙ after_while (env_of c.args.env.now) (before_of c.args.before.now) (next_of c.args.next.now) c.args.at (expr_of c.args.test.now) (stmt_of c.args.body.now)
+    on_ok c.found.result _ (c.in_ok-parts.ensures.counted ∙ after_while (env_of c.args.env.now) (before_of c.args.before.now) (next_of c.args.next.now) c.args.at (expr_of c.args.test.now) (stmt_of c.args.body.now))
+
+pub while_statement-returns-clause-numbered : goal.while_statement-returns-clause-numbered
+while_statement-returns-clause-numbered t c =
+    on_ok c.found.result _ c.in_ok-parts.ensures.numbered
+
+pub while_statement-returns-clause-kept : goal.while_statement-returns-clause-kept
+while_statement-returns-clause-kept t c =
+    on_ok c.found.result _ c.in_ok-parts.ensures.kept
 
 pub do_statement-returns-in_err-laid-clause-judged : goal.do_statement-returns-in_err-laid-clause-judged
 do_statement-returns-in_err-laid-clause-judged t c =
@@ -102,31 +126,35 @@ do_statement-returns-in_err-condition-clause-judged t c =
 
 pub do_statement-returns-clause-judged : goal.do_statement-returns-clause-judged
 do_statement-returns-clause-judged t c =
-    (λ i. both ((sym (λ i. stmt (env_of c.args.env.now) (c.in_loop-inner.ensures i) (before_of c.args.before.now) (next_of c.args.next.now) (stmt_of c.args.body.now)) ∙ c.in_ok-laid.ensures.judged) i) ((sym (λ i. condition_at c.args.at (value (env_of (c.in_ok-laid.ensures.kept i)) (c.in_ok-laid.ensures.counted i) (expr_of c.args.test.now))) ∙ c.in_ok-condition.ensures.judged) i) (λ p d. fine (with_tree p (typed.do_loop p.tree d)))) ∙ ap fine (sym c.in_ok-do_loop.ensures)
+    found_as statement_tree_of c.found.result _ _ ((λ i. both ((sym (λ i. stmt (env_of c.args.env.now) (c.in_loop-inner.ensures i) (before_of c.args.before.now) (next_of c.args.next.now) (stmt_of c.args.body.now)) ∙ c.in_ok-laid.ensures.judged) i) ((sym (λ i. condition_at c.args.at (value (env_of (c.in_ok-laid.ensures.kept i)) (c.in_ok-laid.ensures.counted i) (expr_of c.args.test.now))) ∙ c.in_ok-condition.ensures.judged) i) (λ p d. fine (with_tree p (typed.do_loop p.tree d))))) (c.found.ensures _ c.do_loop.ensures)
 
 pub do_statement-returns-clause-counted : goal.do_statement-returns-clause-counted
 do_statement-returns-clause-counted t c =
-    c.in_ok-condition.ensures.counted ∙ (ap (λ b. after b (expr_of c.args.test.now)) c.in_ok-laid.ensures.counted ∙ after_do (env_of c.args.env.now) (before_of c.args.before.now) (next_of c.args.next.now) c.args.at (stmt_of c.args.body.now) (expr_of c.args.test.now))
+    on_ok c.found.result _ (c.in_ok-condition.ensures.counted ∙ (ap (λ b. after b (expr_of c.args.test.now)) c.in_ok-laid.ensures.counted ∙ after_do (env_of c.args.env.now) (before_of c.args.before.now) (next_of c.args.next.now) c.args.at (stmt_of c.args.body.now) (expr_of c.args.test.now)))
+
+pub do_statement-returns-clause-numbered : goal.do_statement-returns-clause-numbered
+do_statement-returns-clause-numbered t c =
+    on_ok c.found.result _ c.in_ok-laid.ensures.numbered
 
 pub do_statement-returns-clause-kept : goal.do_statement-returns-clause-kept
 do_statement-returns-clause-kept t c =
-    c.in_ok-condition.ensures.kept ∙ c.in_ok-laid.ensures.kept
+    on_ok c.found.result _ (c.in_ok-condition.ensures.kept ∙ c.in_ok-laid.ensures.kept)
 
 pub for_statement-returns-in_err-laid-clause-judged : goal.for_statement-returns-in_err-laid-clause-judged
 for_statement-returns-in_err-laid-clause-judged t c =
-    raised statement_tree_of (stmt (env_of c.args.env.now) (around_of c.args.around.now) (before_of c.args.before.now) (next_of c.args.next.now) (for_loop c.args.at (first_of_head c.args.first.now) (maybe_of c.args.test.now) (maybe_of c.args.step.now) (stmt_of c.args.body.now))) c.from_residual-in_err-laid.result c.in_err-laid.field-0.0 c.from_residual-in_err-laid.ensures (subst (λ v. Names c.in_err-laid.field-0.0 (faults (for_inside v (around_of c.args.around.now) (before_of c.args.before.now) (next_of c.args.next.now) c.args.at (first_of_head c.args.first.now) (maybe_of c.args.test.now) (maybe_of c.args.step.now) (stmt_of c.args.body.now)))) (deeper c.args.env.now c.in_ok-deeper.deeper c.in_ok-deeper.ensures) c.in_err-laid.ensures.judged)
+    raised statement_tree_of (stmt (env_of c.args.env.now) (around_of c.args.around.now) (before_of c.args.before.now) (next_of c.args.next.now) (for_loop c.args.at (first_of_head c.args.first.now) (maybe_of c.args.test.now) (maybe_of c.args.step.now) (stmt_of c.args.body.now))) c.from_residual-in_err-laid.result c.in_err-laid.field-0.0 c.from_residual-in_err-laid.ensures (subst (λ v. Names c.in_err-laid.field-0.0 (faults (for_inside v (around_of c.args.around.now) (before_of c.args.before.now) (next_of c.args.next.now) c.args.at (first_of_head c.args.first.now) (maybe_of c.args.test.now) (maybe_of c.args.step.now) (stmt_of c.args.body.now)))) (ap env_of c.in_ok-depth.ensures.entered) c.in_err-laid.ensures.judged)
 
 pub for_statement-returns-clause-judged : goal.for_statement-returns-clause-judged
 for_statement-returns-clause-judged t c =
-    ap (λ v. for_inside v (around_of c.args.around.now) (before_of c.args.before.now) (next_of c.args.next.now) c.args.at (first_of_head c.args.first.now) (maybe_of c.args.test.now) (maybe_of c.args.step.now) (stmt_of c.args.body.now)) (sym (deeper c.args.env.now c.in_ok-deeper.deeper c.in_ok-deeper.ensures)) ∙ c.in_ok-laid.ensures.judged
+    ap (λ v. for_inside v (around_of c.args.around.now) (before_of c.args.before.now) (next_of c.args.next.now) c.args.at (first_of_head c.args.first.now) (maybe_of c.args.test.now) (maybe_of c.args.step.now) (stmt_of c.args.body.now)) (sym (ap env_of c.in_ok-depth.ensures.entered)) ∙ c.in_ok-laid.ensures.judged
 
 pub for_statement-returns-clause-counted : goal.for_statement-returns-clause-counted
 for_statement-returns-clause-counted t c =
-    c.in_ok-laid.ensures.counted ∙ (ap (λ v. after_for v (before_of c.args.before.now) (next_of c.args.next.now) (first_of_head c.args.first.now) (maybe_of c.args.test.now) (maybe_of c.args.step.now) (stmt_of c.args.body.now)) (deeper c.args.env.now c.in_ok-deeper.deeper c.in_ok-deeper.ensures) ∙ after_parts (inside (env_of c.args.env.now)) (before_of c.args.before.now) (next_of c.args.next.now) (first_of_head c.args.first.now) (maybe_of c.args.test.now) (maybe_of c.args.step.now) (stmt_of c.args.body.now))
+    c.in_ok-laid.ensures.counted ∙ (ap (λ v. after_for v (before_of c.args.before.now) (next_of c.args.next.now) (first_of_head c.args.first.now) (maybe_of c.args.test.now) (maybe_of c.args.step.now) (stmt_of c.args.body.now)) (ap env_of c.in_ok-depth.ensures.entered) ∙ after_parts (inside (env_of c.args.env.now)) (before_of c.args.before.now) (next_of c.args.next.now) (first_of_head c.args.first.now) (maybe_of c.args.test.now) (maybe_of c.args.step.now) (stmt_of c.args.body.now))
 
 pub for_statement-returns-clause-kept : goal.for_statement-returns-clause-kept
 for_statement-returns-clause-kept t c =
-    c.leave_block.ensures c.args.env.now (declared_deeper c.args.env.now c.for_parts.new.env c.in_ok-deeper.deeper c.in_ok-deeper.ensures c.in_ok-laid.ensures.kept) (sym c.len-count.ensures) (sym c.in_ok-depth.ensures)
+    c.leave_block.ensures c.args.env.now (declared_deeper c.args.env.now c.for_parts.new.env c.enter_block.new.env c.in_ok-depth.ensures.entered c.in_ok-laid.ensures.kept) (sym c.len-count.ensures) (sym c.in_ok-depth.ensures.before)
 
 pub for_parts-returns-in_err-head-clause-judged : goal.for_parts-returns-in_err-head-clause-judged
 for_parts-returns-in_err-head-clause-judged t c =
@@ -142,19 +170,19 @@ for_parts-returns-in_err-laid-clause-judged t c =
 
 pub for_parts-returns-clause-judged : goal.for_parts-returns-clause-judged
 for_parts-returns-clause-judged t c =
-    (λ i. all_three (c.in_ok-head.ensures.judged i) ((sym (λ i. beside (test_of (c.in_ok-head.ensures.meant i) (c.in_ok-head.ensures.counted i) c.args.at (maybe_of c.args.test.now)) (step_of (c.in_ok-head.ensures.meant i) (after_maybe (c.in_ok-head.ensures.counted i) (maybe_of c.args.test.now)) (maybe_of c.args.step.now))) ∙ c.in_ok-tests.ensures.judged) i) ((sym (λ i. stmt ((ap env_of c.in_ok-tests.ensures.kept ∙ c.in_ok-head.ensures.meant) i) (c.in_loop-inner.ensures i) ((c.in_ok-tests.ensures.counted ∙ ap (λ b. after_maybe (after_maybe b (maybe_of c.args.test.now)) (maybe_of c.args.step.now)) c.in_ok-head.ensures.counted) i) (c.in_ok-head.ensures.numbered i) (stmt_of c.args.body.now)) ∙ c.in_ok-laid.ensures.judged) i) (λ p tests q. fine (for_of p tests q))) ∙ ap fine (sym c.in_ok-for_loop.ensures)
+    found_as statement_tree_of c.found.result _ _ ((λ i. all_three (c.in_ok-head.ensures.judged i) ((sym (λ i. beside (test_of (c.in_ok-head.ensures.meant i) (c.in_ok-head.ensures.counted i) c.args.at (maybe_of c.args.test.now)) (step_of (c.in_ok-head.ensures.meant i) (after_maybe (c.in_ok-head.ensures.counted i) (maybe_of c.args.test.now)) (maybe_of c.args.step.now))) ∙ c.in_ok-tests.ensures.judged) i) ((sym (λ i. stmt ((ap env_of c.in_ok-tests.ensures.kept ∙ c.in_ok-head.ensures.meant) i) (c.in_loop-inner.ensures i) ((c.in_ok-tests.ensures.counted ∙ ap (λ b. after_maybe (after_maybe b (maybe_of c.args.test.now)) (maybe_of c.args.step.now)) c.in_ok-head.ensures.counted) i) (c.in_ok-head.ensures.numbered i) (stmt_of c.args.body.now)) ∙ c.in_ok-laid.ensures.judged) i) (λ p tests q. fine (for_of p tests q)))) (c.found.ensures _ c.for_loop.ensures)
 
 pub for_parts-returns-clause-counted : goal.for_parts-returns-clause-counted
 for_parts-returns-clause-counted t c =
-    c.in_ok-laid.ensures.counted ∙ (λ i. after_stmt ((ap env_of c.in_ok-tests.ensures.kept ∙ c.in_ok-head.ensures.meant) i) ((c.in_ok-tests.ensures.counted ∙ ap (λ b. after_maybe (after_maybe b (maybe_of c.args.test.now)) (maybe_of c.args.step.now)) c.in_ok-head.ensures.counted) i) (c.in_ok-head.ensures.numbered i) (stmt_of c.args.body.now))
+    on_ok c.found.result _ (c.in_ok-laid.ensures.counted ∙ (λ i. after_stmt ((ap env_of c.in_ok-tests.ensures.kept ∙ c.in_ok-head.ensures.meant) i) ((c.in_ok-tests.ensures.counted ∙ ap (λ b. after_maybe (after_maybe b (maybe_of c.args.test.now)) (maybe_of c.args.step.now)) c.in_ok-head.ensures.counted) i) (c.in_ok-head.ensures.numbered i) (stmt_of c.args.body.now)))
 
 pub for_parts-returns-clause-numbered : goal.for_parts-returns-clause-numbered
 for_parts-returns-clause-numbered t c =
-    c.in_ok-laid.ensures.numbered ∙ (ap (λ n. past_names n (names_of_stmt (stmt_of c.args.body.now))) c.in_ok-head.ensures.numbered ∙ sym (names_append (next_of c.args.next.now) (names_of_first (first_of_head c.args.first.now)) (names_of_stmt (stmt_of c.args.body.now))))
+    on_ok c.found.result _ (c.in_ok-laid.ensures.numbered ∙ (ap (λ n. past_names n (names_of_stmt (stmt_of c.args.body.now))) c.in_ok-head.ensures.numbered ∙ sym (names_append (next_of c.args.next.now) (names_of_first (first_of_head c.args.first.now)) (names_of_stmt (stmt_of c.args.body.now)))))
 
 pub for_parts-returns-clause-kept : goal.for_parts-returns-clause-kept
 for_parts-returns-clause-kept t c =
-    declared_as c.args.env.now c.first_of.new.env c.statement.new.env c.in_ok-head.ensures.kept (c.in_ok-laid.ensures.kept ∙ c.in_ok-tests.ensures.kept)
+    on_ok c.found.result _ (declared_as c.args.env.now c.first_of.new.env c.statement.new.env c.in_ok-head.ensures.kept (c.in_ok-laid.ensures.kept ∙ c.in_ok-tests.ensures.kept))
 
 pub switch_statement-returns-in_err-on-clause-judged : goal.switch_statement-returns-in_err-on-clause-judged
 switch_statement-returns-in_err-on-clause-judged t c =
@@ -235,6 +263,26 @@ block_item-returns-in-Declaration-clause-numbered t c =
 pub block_item-returns-in_err-one-in-Statement-clause-judged : goal.block_item-returns-in_err-one-in-Statement-clause-judged
 block_item-returns-in_err-one-in-Statement-clause-judged t c =
     raised statement_trees_of (item_alone (env_of c.args.env.now) (around_of c.args.around.now) (before_of c.args.before.now) (next_of c.args.next.now) c.args.item.now) c.from_residual.result c.in_err-one-in-Statement.field-0.0 c.from_residual.ensures (subst (λ x. Names c.in_err-one-in-Statement.field-0.0 (faults (item_alone (env_of c.args.env.now) (around_of c.args.around.now) (before_of c.args.before.now) (next_of c.args.next.now) x))) (sym c.in-Statement.is) (names_on c.in_err-one-in-Statement.field-0.0 (stmt (env_of c.args.env.now) (around_of c.args.around.now) (before_of c.args.before.now) (next_of c.args.next.now) (stmt_of c.in-Statement.s)) (λ p. fine (alone p)) c.in_err-one-in-Statement.ensures.judged))
+
+pub block_item-returns-in_ok-one-in-Statement-clause-judged : goal.block_item-returns-in_ok-one-in-Statement-clause-judged
+block_item-returns-in_ok-one-in-Statement-clause-judged t c =
+    found_as statement_trees_of c.all_found.result _ _ (ap (item_alone (env_of c.args.env.now) (around_of c.args.around.now) (before_of c.args.before.now) (next_of c.args.next.now)) c.in-Statement.is ∙ ap (λ r. gives r alone) c.in_ok-one-in-Statement.ensures.judged) (c.all_found.ensures _ c.alone.ensures)
+
+pub block_item-returns-in_ok-one-in-Statement-clause-counted : goal.block_item-returns-in_ok-one-in-Statement-clause-counted
+block_item-returns-in_ok-one-in-Statement-clause-counted t c =
+    on_ok c.all_found.result _ (c.in_ok-one-in-Statement.ensures.counted ∙ ap (after_item (env_of c.args.env.now) (before_of c.args.before.now) (next_of c.args.next.now)) (sym c.in-Statement.is))
+
+pub block_item-returns-in_ok-one-in-Statement-clause-meant : goal.block_item-returns-in_ok-one-in-Statement-clause-meant
+block_item-returns-in_ok-one-in-Statement-clause-meant t c =
+    on_ok c.all_found.result _ (ap env_of c.in_ok-one-in-Statement.ensures.kept ∙ ap (behind_item (env_of c.args.env.now) (next_of c.args.next.now)) (sym c.in-Statement.is))
+
+pub block_item-returns-in_ok-one-in-Statement-clause-numbered : goal.block_item-returns-in_ok-one-in-Statement-clause-numbered
+block_item-returns-in_ok-one-in-Statement-clause-numbered t c =
+    on_ok c.all_found.result _ (c.in_ok-one-in-Statement.ensures.numbered ∙ (ap (past_names (next_of c.args.next.now)) (sym (append-nil (names_of_stmt (stmt_of c.in-Statement.s)))) ∙ ap (λ x. past_names (next_of c.args.next.now) (names_of_block_item x)) (sym c.in-Statement.is)))
+
+pub block_item-returns-in_ok-one-in-Statement-clause-kept : goal.block_item-returns-in_ok-one-in-Statement-clause-kept
+block_item-returns-in_ok-one-in-Statement-clause-kept t c =
+    on_ok c.all_found.result _ ([], c.in_ok-one-in-Statement.ensures.kept)
 
 pub statements-loop-s-init : goal.statements-loop-s-init
 statements-loop-s-init t c =
@@ -344,6 +392,18 @@ pub statement-returns-in-Block-clause-numbered : goal.statement-returns-in-Block
 statement-returns-in-Block-clause-numbered t c =
     subst (λ z. OnOk c.block_statement.result (next_of c.block_statement.new.next ≡ past_names (next_of c.args.next.now) (names_of_stmt z))) (block_seen c.args.s.now c.in-Block.items c.deref.result.now c.in-Block.is c.deref.ensures.value) c.block_statement.ensures.numbered
 
+pub statement-returns-in-Empty-clause-judged : goal.statement-returns-in-Empty-clause-judged
+statement-returns-in-Empty-clause-judged t c =
+    found_as statement_tree_of c.found.result _ (bare typed.empty) (ap (λ k. stmt (env_of c.args.env.now) (around_of c.args.around.now) (before_of c.args.before.now) (next_of c.args.next.now) (stmt_at c.args.s.now.at k)) c.in-Empty.is) (c.found.ensures (bare typed.empty) c.bare.ensures)
+
+pub statement-returns-in-Empty-clause-counted : goal.statement-returns-in-Empty-clause-counted
+statement-returns-in-Empty-clause-counted t c =
+    on_ok c.found.result _ (sym (past_none (before_of c.args.before.now)) ∙ ap (after_stmt (env_of c.args.env.now) (before_of c.args.before.now) (next_of c.args.next.now)) (ap (stmt_at c.args.s.now.at) (sym c.in-Empty.is)))
+
+pub statement-returns-in-Empty-clause-numbered : goal.statement-returns-in-Empty-clause-numbered
+statement-returns-in-Empty-clause-numbered t c =
+    on_ok c.found.result _ (ap (λ z. past_names (next_of c.args.next.now) (names_of_stmt z)) (ap (stmt_at c.args.s.now.at) (sym c.in-Empty.is)))
+
 pub statement-returns-in-Expr-clause-judged : goal.statement-returns-in-Expr-clause-judged
 statement-returns-in-Expr-clause-judged t c =
     subst (λ z. AgreesWith statement_tree_of c.evaluated.result (stmt (env_of c.args.env.now) (around_of c.args.around.now) (before_of c.args.before.now) (next_of c.args.next.now) z)) (ap (stmt_at c.args.s.now.at) (sym c.in-Expr.is)) c.evaluated.ensures.judged
@@ -442,11 +502,25 @@ statement-returns-in-Switch-clause-numbered t c =
 
 pub statement-returns-in_err-parts-in-If-clause-judged : goal.statement-returns-in_err-parts-in-If-clause-judged
 statement-returns-in_err-parts-in-If-clause-judged t c =
-    raised statement_tree_of (stmt (env_of c.args.env.now) (around_of c.args.around.now) (before_of c.args.before.now) (next_of c.args.next.now) (stmt_of c.args.s.now)) c.from_residual-in_err-parts-in-If.result c.in_err-parts-in-If.field-0.0 c.from_residual-in_err-parts-in-If.ensures (subst (λ z. Names c.in_err-parts-in-If.field-0.0 (faults (stmt (env_of c.args.env.now) (around_of c.args.around.now) (before_of c.args.before.now) (next_of c.args.next.now) z))) (if_seen c.args.s.now c.in-If.test c.in-If.yes c.in-If.no c.deref-in-If.result.now c.in-If.is c.deref-in-If.ensures) (if_fails c.in_err-parts-in-If.field-0.0 (env_of c.args.env.now) (around_of c.args.around.now) (before_of c.args.before.now) (next_of c.args.next.now) c.args.s.now.at c.in-If.test (stmt_of c.deref-in-If.result.now) (else_behind c.in-If.no) c.in_err-parts-in-If.ensures.judged))
+    raised statement_tree_of (stmt (env_of c.args.env.now) (around_of c.args.around.now) (before_of c.args.before.now) (next_of c.args.next.now) (stmt_of c.args.s.now)) c.from_residual.result c.in_err-parts-in-If.field-0.0 c.from_residual.ensures (subst (λ z. Names c.in_err-parts-in-If.field-0.0 (faults (stmt (env_of c.args.env.now) (around_of c.args.around.now) (before_of c.args.before.now) (next_of c.args.next.now) z))) (if_seen c.args.s.now c.in-If.test c.in-If.yes c.in-If.no c.deref-in-If.result.now c.in-If.is c.deref-in-If.ensures) (if_fails c.in_err-parts-in-If.field-0.0 (env_of c.args.env.now) (around_of c.args.around.now) (before_of c.args.before.now) (next_of c.args.next.now) c.args.s.now.at c.in-If.test (stmt_of c.deref-in-If.result.now) (else_behind c.in-If.no) c.in_err-parts-in-If.ensures.judged))
 
-pub statement-returns-in_ok-only_if-in-None-clause-counted : goal.statement-returns-in_ok-only_if-in-None-clause-counted
-statement-returns-in_ok-only_if-in-None-clause-counted t c =
-    c.in_ok-parts-in-If.ensures.counted ∙ (after_while (env_of c.args.env.now) (before_of c.args.before.now) (next_of c.args.next.now) c.args.s.now.at (expr_of c.in-If.test) (stmt_of c.deref-in-If.result.now) ∙ ap (after_stmt (env_of c.args.env.now) (before_of c.args.before.now) (next_of c.args.next.now)) (ap (λ o. if_with c.args.s.now.at c.in-If.test (stmt_of c.deref-in-If.result.now) (else_behind o)) (sym c.in-None.is) ∙ (if_seen c.args.s.now c.in-If.test c.in-If.yes c.in-If.no c.deref-in-If.result.now c.in-If.is c.deref-in-If.ensures)))
+pub statement-returns-in-None-clause-judged : goal.statement-returns-in-None-clause-judged
+statement-returns-in-None-clause-judged t c =
+    found_as statement_tree_of c.found-in-None.result _ _
+    (ap (stmt (env_of c.args.env.now) (around_of c.args.around.now) (before_of c.args.before.now) (next_of c.args.next.now)) (sym (ap (λ o. if_with c.args.s.now.at c.in-If.test (stmt_of c.deref-in-If.result.now) (else_behind o)) (sym c.in-None.is) ∙ (if_seen c.args.s.now c.in-If.test c.in-If.yes c.in-If.no c.deref-in-If.result.now c.in-If.is c.deref-in-If.ensures))) ∙ two_as (condition_at c.args.s.now.at (value (env_of c.args.env.now) (before_of c.args.before.now) (expr_of c.in-If.test))) (stmt (env_of c.args.env.now) (around_of c.args.around.now) (after (before_of c.args.before.now) (expr_of c.in-If.test)) (next_of c.args.next.now) (stmt_of c.deref-in-If.result.now)) (λ d p. fine (with_tree p (typed.if_else d p.tree typed.empty))) (tested_of c.in_ok-parts-in-If.parts) c.in_ok-parts-in-If.ensures.judged)
+    (c.found-in-None.ensures _ c.only_if.ensures)
+
+pub statement-returns-in-None-clause-counted : goal.statement-returns-in-None-clause-counted
+statement-returns-in-None-clause-counted t c =
+    on_ok c.found-in-None.result _ (c.in_ok-parts-in-If.ensures.counted ∙ (after_while (env_of c.args.env.now) (before_of c.args.before.now) (next_of c.args.next.now) c.args.s.now.at (expr_of c.in-If.test) (stmt_of c.deref-in-If.result.now) ∙ ap (after_stmt (env_of c.args.env.now) (before_of c.args.before.now) (next_of c.args.next.now)) (ap (λ o. if_with c.args.s.now.at c.in-If.test (stmt_of c.deref-in-If.result.now) (else_behind o)) (sym c.in-None.is) ∙ (if_seen c.args.s.now c.in-If.test c.in-If.yes c.in-If.no c.deref-in-If.result.now c.in-If.is c.deref-in-If.ensures))))
+
+pub statement-returns-in-None-clause-numbered : goal.statement-returns-in-None-clause-numbered
+statement-returns-in-None-clause-numbered t c =
+    on_ok c.found-in-None.result _ (c.in_ok-parts-in-If.ensures.numbered ∙ ap (λ z. past_names (next_of c.args.next.now) (names_of_stmt z)) (ap (λ o. if_with c.args.s.now.at c.in-If.test (stmt_of c.deref-in-If.result.now) (else_behind o)) (sym c.in-None.is) ∙ (if_seen c.args.s.now c.in-If.test c.in-If.yes c.in-If.no c.deref-in-If.result.now c.in-If.is c.deref-in-If.ensures)))
+
+pub statement-returns-in-None-clause-kept : goal.statement-returns-in-None-clause-kept
+statement-returns-in-None-clause-kept t c =
+    on_ok c.found-in-None.result _ c.in_ok-parts-in-If.ensures.kept
 
 pub statement-returns-in-Some-clause-counted : goal.statement-returns-in-Some-clause-counted
 statement-returns-in-Some-clause-counted t c =

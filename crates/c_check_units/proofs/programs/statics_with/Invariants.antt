@@ -1,5 +1,5 @@
 use Rattle.std.proofs.Common.{◌≡◌, ◌++◌, map, take}
-use Rattle.c_check_counts.specs.Seen.{seen}
+use Rattle.c_syntax.specs.SeenNames.{seen}
 use Rattle.c_rules.specs.Units.{static_string}
 use Rattle.c_tree.specs.View.{static_of}
 use Rattle.c_check_units.proofs.programs.statics_with.Given as goal

@@ -1,4 +1,4 @@
-use Rattle.c_check_counts.proofs.Rows.{array_is}
+use Rattle.c_syntax.proofs.NodeRows.{array_is}
 use Rattle.c_syntax_nodes.proofs.declarators.array_node.Goals as goal
 
 pub returns : goal.returns

@@ -1,4 +1,4 @@
-use Rattle.c_check_counts.proofs.Rows.{function_is}
+use Rattle.c_syntax.proofs.NodeRows.{function_is}
 use Rattle.c_syntax_nodes.proofs.declarators.function_node.Goals as goal
 
 pub returns : goal.returns

@@ -1,4 +1,4 @@
-use Rattle.c_check_counts.proofs.Rows.{pointer_is}
+use Rattle.c_syntax.proofs.NodeRows.{pointer_is}
 use Rattle.c_syntax_nodes.proofs.declarators.pointer_node.Goals as goal
 
 pub returns : goal.returns

@@ -2,7 +2,7 @@ use Rattle.std.proofs.Common.{ap, ◌∙◌}
 use Rattle.c_syntax.specs.Tree.{call}
 use Rattle.c_syntax.specs.View.{expr_of}
 use Rattle.c_syntax.specs.Writes.{exprs_of}
-use Rattle.c_check_counts.proofs.Rows.{call_is}
+use Rattle.c_syntax.proofs.NodeRows.{call_is}
 use Rattle.c_syntax_nodes.proofs.nodes.call_node.Goals as goal
 
 pub returns : goal.returns

@@ -1,4 +1,4 @@
-use Rattle.c_check_counts.proofs.Rows.{comma_is}
+use Rattle.c_syntax.proofs.NodeRows.{comma_is}
 use Rattle.c_syntax_nodes.proofs.nodes.comma_node.Goals as goal
 
 pub returns : goal.returns

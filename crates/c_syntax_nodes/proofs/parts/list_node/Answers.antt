@@ -1,4 +1,4 @@
-use Rattle.c_check_counts.proofs.Rows.{list_is}
+use Rattle.c_syntax.proofs.NodeRows.{list_is}
 use Rattle.c_syntax_nodes.proofs.parts.list_node.Goals as goal
 
 pub returns : goal.returns

@@ -1,6 +1,6 @@
 use Rattle.std.proofs.Common.{◌∙◌, ◌∷◌, [], ap, map, get_or, refl}
 use Rattle.c_tree.specs.View.{program_of}
-use Rattle.c_meaning_laws.specs.ShapeOf.{candidate_places}
+use Rattle.c_meaning.specs.ShapeOf.{candidate_places}
 use Rattle.flow_model.specs.Call.{Call}
 use Rattle.flow_graph.specs.declared.sites.SiteEdge.{SiteEdge}
 use Rattle.flow_graph.specs.Places.{call_of}

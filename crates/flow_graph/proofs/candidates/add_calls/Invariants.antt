@@ -1,6 +1,6 @@
 use Rattle.std.proofs.Common.{◌≡◌, map, drop}
 use Rattle.c_tree.specs.View.{program_of}
-use Rattle.c_meaning_laws.specs.ShapeOf.{candidate_places}
+use Rattle.c_meaning.specs.ShapeOf.{candidate_places}
 use Rattle.flow_graph.specs.Places.{call_of}
 use Rattle.flow_graph.proofs.RecordLemmas.{with_calls}
 use Rattle.flow_graph.proofs.candidates.add_calls.Given as goal

@@ -1,7 +1,7 @@
 use Rattle.std.proofs.Common.{◌+◌, ◌^◌, refl, arith}
 use Rattle.flow_graph.specs.View.{shapes_in}
 use Rattle.flow_graph.specs.Edges.{edges_in}
-use Rattle.c_meaning_laws.specs.GraphOf.{edges_from}
+use Rattle.c_meaning.specs.GraphOf.{edges_from}
 use Rattle.flow_graph.proofs.FunctionsLemmas.{nodes_next, nodes_room, function_more, function_end}
 use Rattle.flow_graph.proofs.functions.edges_of.Goals as goal
 

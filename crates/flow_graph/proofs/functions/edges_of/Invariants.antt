@@ -1,7 +1,7 @@
 use Rattle.std.proofs.Common.{◌≡◌, ◌++◌, drop}
 use Rattle.flow_graph.specs.View.{shapes_in}
 use Rattle.flow_graph.specs.Edges.{edges_in}
-use Rattle.c_meaning_laws.specs.GraphOf.{edges_from, nodes_from}
+use Rattle.c_meaning.specs.GraphOf.{edges_from, nodes_from}
 use Rattle.flow_graph.proofs.functions.edges_of.Given as goal
 
 abbrev pub invariant-loop-shape : goal.invariant-loop-shape

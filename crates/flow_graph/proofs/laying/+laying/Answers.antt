@@ -1,8 +1,8 @@
 use Rattle.std.proofs.Common.{◌≡◌, ◌++◌, ◌∙◌, ap, ap₂, refl, sym, arith, drop, ◌+◌, ◌^◌}
-use Rattle.c_meaning_laws.specs.Shape.{Alt, Loop, Do, Cases}
+use Rattle.c_meaning.specs.Shape.{Alt, Loop, Do, Cases}
 use Rattle.flow_graph.specs.View.{shape_of, parts_of}
 use Rattle.flow_graph.specs.Edges.{edges_in, places_of}
-use Rattle.c_meaning_laws.specs.GraphLayout.{edges, edges_of_parts, width, count}
+use Rattle.c_meaning.specs.GraphLayout.{edges, edges_of_parts, width, count}
 use Rattle.flow_graph.proofs.LayingLemmas.{parts_many, of_cases, on_same, next_same, ends_at, alt_laid, loop_laid, do_laid, laid_more, fresh_more, seq_laid, seq_next, rest_nodes, first_fits, rest_fits, cases_fit}
 use Rattle.flow_graph.specs.declared.shape.Shape.TheViews.{size-Shape, sized-Seq, sized-Cases}
 use Rattle.flow_graph.proofs.laying.+laying.Goals as goal

@@ -1,7 +1,7 @@
 use Rattle.std.proofs.Common.{◌≡◌, ◌+◌, ◌++◌, drop}
 use Rattle.flow_graph.specs.View.{parts_of}
 use Rattle.flow_graph.specs.Edges.{edges_in, places_of}
-use Rattle.c_meaning_laws.specs.GraphLayout.{widths, edges_of_parts}
+use Rattle.c_meaning.specs.GraphLayout.{widths, edges_of_parts}
 use Rattle.flow_graph.proofs.laying.+laying.Given as goal
 
 abbrev pub invariant-lay_parts-loop-k : goal.invariant-lay_parts-loop-k

@@ -1,7 +1,7 @@
 use Rattle.std.proofs.Common.{◌≡◌, ◌+◌, ◌++◌, drop}
 use Rattle.flow_graph.specs.View.{parts_of}
 use Rattle.flow_graph.specs.Edges.{edges_in}
-use Rattle.c_meaning_laws.specs.GraphLayout.{to_each}
+use Rattle.c_meaning.specs.GraphLayout.{to_each}
 use Rattle.flow_graph.proofs.laying.lay_to_each.Given as goal
 
 abbrev pub invariant-loop-k : goal.invariant-loop-k

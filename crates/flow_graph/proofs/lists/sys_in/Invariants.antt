@@ -1,6 +1,6 @@
 use Rattle.std.proofs.Common.{◌≡◌, take}
 use Rattle.flow_graph.specs.Edges.{edges_in}
-use Rattle.c_meaning_laws.specs.GraphOf.{sys_edges}
+use Rattle.c_meaning.specs.GraphOf.{sys_edges}
 use Rattle.flow_graph.proofs.lists.sys_in.Given as goal
 
 abbrev pub invariant-loop-edge : goal.invariant-loop-edge

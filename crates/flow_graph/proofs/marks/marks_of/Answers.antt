@@ -1,6 +1,6 @@
 use Rattle.std.proofs.Common.{◌≤◌, arith}
 use Rattle.c_tree.specs.View.{program_of}
-use Rattle.c_meaning_laws.specs.CallGraph.{marked}
+use Rattle.c_meaning.specs.CallGraph.{marked}
 use Rattle.flow_graph.proofs.ProgramLemmas.{mark_more, all_marked}
 use Rattle.flow_graph.proofs.marks.marks_of.Goals as goal
 

@@ -1,5 +1,5 @@
 use Rattle.c_tree.specs.View.{program_of}
-use Rattle.c_meaning_laws.specs.CallGraph.{marked}
+use Rattle.c_meaning.specs.CallGraph.{marked}
 use Rattle.flow_graph.proofs.ProgramLemmas.{AreMarks}
 use Rattle.flow_graph.proofs.marks.marks_of.Given as goal
 

@@ -1,11 +1,11 @@
 use Rattle.std.proofs.Common.{sym, subst}
 use Rattle.c_tree.specs.View.{program_of}
-use Rattle.c_meaning_laws.specs.ProgramLanguages as programs
+use Rattle.c_meaning.specs.ProgramLanguages as programs
 use Rattle.flow_graph.specs.View.{shapes_in}
 use Rattle.flow_model.specs.declared.which.Which.TheVariants.{Callgraph, Stack, Dyck}
 use Rattle.flow_model.specs.Language.{Reads}
 use Rattle.flow_model.specs.Rules.{IsValid}
-use Rattle.c_meaning_laws.specs.Equal.{AreEqual}
+use Rattle.c_meaning.specs.Equal.{AreEqual}
 use Rattle.flow_graph.proofs.MadeLemmas.{exact_nodes, many_nodes, few_made}
 use Rattle.flow_graph.proofs.model.model_of_shapes.Goals as goal
 

@@ -1,7 +1,7 @@
 use Rattle.c_tree.specs.View.{program_of}
 use Rattle.flow_graph.specs.View.{shapes_in}
 use Rattle.flow_model.specs.Built.{graph_of_records}
-use Rattle.c_meaning_laws.specs.GraphOfProgram.{graph_of_program}
+use Rattle.c_meaning.specs.GraphOfProgram.{graph_of_program}
 use Rattle.flow_graph.proofs.MadeLemmas.{graph_made, made_kept, made_unbroken, few_made}
 use Rattle.flow_graph.proofs.model.model_with.Goals as goal
 

@@ -1,9 +1,9 @@
 use Rattle.std.proofs.Common.{◌<◌, ◌+◌, ◌^◌, drop, length, arith}
 use Rattle.c_tree.specs.View.{program_of}
-use Rattle.c_meaning_laws.specs.ShapeOf.{names_of_functions}
+use Rattle.c_meaning.specs.ShapeOf.{names_of_functions}
 use Rattle.flow_graph.specs.View.{shapes_in}
 use Rattle.flow_model.specs.declared.records.ModelFunction.{ModelFunction}
-use Rattle.c_meaning_laws.specs.GraphOf.{functions_from}
+use Rattle.c_meaning.specs.GraphOf.{functions_from}
 use Rattle.flow_graph.proofs.RecordLemmas.{with_functions, functions_more, functions_end}
 use Rattle.flow_graph.proofs.FunctionLemmas.{next_function, no_function}
 use Rattle.flow_graph.proofs.FunctionsLemmas.{nodes_next, nodes_room}

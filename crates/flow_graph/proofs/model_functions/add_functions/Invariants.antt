@@ -1,8 +1,8 @@
 use Rattle.std.proofs.Common.{◌≡◌, drop}
 use Rattle.c_tree.specs.View.{program_of}
-use Rattle.c_meaning_laws.specs.ShapeOf.{names_of_functions}
+use Rattle.c_meaning.specs.ShapeOf.{names_of_functions}
 use Rattle.flow_graph.specs.View.{shapes_in}
-use Rattle.c_meaning_laws.specs.GraphOf.{functions_from, nodes_from}
+use Rattle.c_meaning.specs.GraphOf.{functions_from, nodes_from}
 use Rattle.flow_graph.proofs.RecordLemmas.{with_functions}
 use Rattle.flow_graph.proofs.model_functions.add_functions.Given as goal
 

@@ -1,7 +1,7 @@
 use Rattle.std.proofs.Common.{◌≡◌, ◌∙◌, ◌+◌, ◌-◌, ◌<◌, ◌≤◌, ℕ, ap, get_or, arith}
 use Rattle.c_tree.specs.Functions.{defined}
 use Rattle.c_tree.specs.View.{program_of}
-use Rattle.c_meaning_laws.specs.ShapeOf.{taken_calls}
+use Rattle.c_meaning.specs.ShapeOf.{taken_calls}
 use Rattle.flow_graph.proofs.FunctionLemmas.{name_of_defined, name_of_taken, taken_place}
 use Rattle.flow_graph.proofs.model_functions.name_at.Goals as goal
 

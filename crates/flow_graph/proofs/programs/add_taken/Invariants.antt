@@ -2,8 +2,8 @@ use Rattle.std.proofs.Common.{◌≡◌, ◌+◌, ◌++◌, map, filter}
 use Rattle.std.specs.List.{range_with_len}
 use Rattle.c_tree.specs.Functions.{defined}
 use Rattle.c_tree.specs.View.{program_of}
-use Rattle.c_meaning_laws.specs.CallGraph.{is_taken}
-use Rattle.c_meaning_laws.specs.ShapeOf.{any_call}
+use Rattle.c_meaning.specs.CallGraph.{is_taken}
+use Rattle.c_meaning.specs.ShapeOf.{any_call}
 use Rattle.flow_graph.specs.View.{shapes_in}
 use Rattle.flow_graph.proofs.programs.add_taken.Given as goal
 

@@ -1,6 +1,6 @@
 use Rattle.std.proofs.Common.{◌∙◌, ap, map}
 use Rattle.sys_table.specs.declared.kinds.ArgKind.{ArgKind}
-use Rattle.c_meaning_laws.specs.ShapeOf.{system_call}
+use Rattle.c_meaning.specs.ShapeOf.{system_call}
 use Rattle.flow_graph.proofs.ProgramLemmas.{nothing, any_pattern}
 use Rattle.flow_graph.proofs.programs.any_call.Goals as goal
 

@@ -1,7 +1,7 @@
 use Rattle.std.proofs.Common.{◌≡◌, ◌∙◌, List, Result, Ok, Err, IfOk, ap, map}
 use Rattle.dm_base.specs.declared.memory.OutOfMemory.{OutOfMemory}
 use Rattle.c_tree.specs.View.{program_of}
-use Rattle.c_meaning_laws.specs.ShapeOf.{names_of_functions, candidate_places}
+use Rattle.c_meaning.specs.ShapeOf.{names_of_functions, candidate_places}
 use Rattle.flow_graph.specs.View.{shapes_in}
 use Rattle.flow_model.specs.declared.records.ModelFunction.{ModelFunction}
 use Rattle.flow_model.specs.declared.records.SilentEdge.{SilentEdge}
@@ -9,8 +9,8 @@ use Rattle.flow_model.specs.declared.records.SysEdge.{SysEdge}
 use Rattle.flow_model.specs.Call.{Call}
 use Rattle.flow_model.specs.Built.{Records}
 use Rattle.flow_model.specs.Order.{silent_order, sys_order}
-use Rattle.c_meaning_laws.specs.GraphOf.{functions_from, edges_from, silent_edges, sys_edges}
-use Rattle.c_meaning_laws.specs.Sorted.{sorted}
+use Rattle.c_meaning.specs.GraphOf.{functions_from, edges_from, silent_edges, sys_edges}
+use Rattle.c_meaning.specs.Sorted.{sorted}
 use Rattle.flow_graph.specs.Places.{call_of}
 use Rattle.flow_graph.specs.SiteEdges.{site_edges, site_edge_order}
 use Rattle.flow_graph.proofs.records.builder_of.Goals as goal

@@ -1,9 +1,9 @@
 use Rattle.std.proofs.Common.{◌∙◌, ap, map}
 use Rattle.std.proofs.lemmas.Result.{on_ok_weaker}
 use Rattle.c_tree.specs.View.{program_of}
-use Rattle.c_meaning_laws.specs.ShapeOf.{names_of_functions, candidate_places}
+use Rattle.c_meaning.specs.ShapeOf.{names_of_functions, candidate_places}
 use Rattle.flow_graph.specs.View.{shapes_in}
-use Rattle.c_meaning_laws.specs.GraphOf.{functions_from}
+use Rattle.c_meaning.specs.GraphOf.{functions_from}
 use Rattle.flow_graph.specs.Places.{call_of}
 use Rattle.flow_graph.proofs.RecordLemmas.{with_silent, with_sys, all_given}
 use Rattle.flow_graph.proofs.MadeLemmas.{many_shapes}

@@ -1,5 +1,5 @@
 use Rattle.std.proofs.Common.{rules, ◌≡◌, ◌∙◌, ◌<◌, true, ap, sym, length, arith}
-use Rattle.c_meaning_laws.specs.Shape.{Seq}
+use Rattle.c_meaning.specs.Shape.{Seq}
 use Rattle.flow_graph.specs.View.{shape_of, parts_of}
 use Rattle.flow_graph.proofs.Rows.{seq_is}
 use Rattle.flow_graph.proofs.SequenceLemmas.{turn_many}

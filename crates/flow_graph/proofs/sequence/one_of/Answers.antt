@@ -1,5 +1,5 @@
 use Rattle.std.proofs.Common.{ap}
-use Rattle.c_meaning_laws.specs.ShapeOf.{seq_two}
+use Rattle.c_meaning.specs.ShapeOf.{seq_two}
 use Rattle.flow_graph.specs.View.{shape_of}
 use Rattle.flow_graph.proofs.Trees.{same_shape}
 use Rattle.flow_graph.proofs.sequence.one_of.Goals as goal

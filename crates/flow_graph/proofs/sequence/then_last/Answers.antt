@@ -1,5 +1,5 @@
 use Rattle.std.proofs.Common.{ap}
-use Rattle.c_meaning_laws.specs.ShapeOf.{in_turn}
+use Rattle.c_meaning.specs.ShapeOf.{in_turn}
 use Rattle.flow_graph.proofs.Trees.{same_shape}
 use Rattle.flow_graph.proofs.sequence.then_last.Goals as goal
 

@@ -1,6 +1,6 @@
 use Rattle.std.proofs.Common.{◌∙◌, ap}
-use Rattle.c_meaning_laws.specs.Shape.{End}
-use Rattle.c_meaning_laws.specs.ShapeOf.{before_parts, in_turn}
+use Rattle.c_meaning.specs.Shape.{End}
+use Rattle.c_meaning.specs.ShapeOf.{before_parts, in_turn}
 use Rattle.flow_graph.specs.View.{shape_of, parts_of}
 use Rattle.flow_graph.specs.Joined.{joined}
 use Rattle.flow_graph.proofs.SequenceLemmas.{before_joined}

@@ -1,6 +1,6 @@
 use Rattle.std.proofs.Common.{◌≡◌, drop}
 use Rattle.c_tree.specs.View.{groups_of}
-use Rattle.c_meaning_laws.specs.ShapeOf.{has_default}
+use Rattle.c_meaning.specs.ShapeOf.{has_default}
 use Rattle.flow_graph.proofs.statements.has_default.Given as goal
 
 abbrev pub invariant-loop-group : goal.invariant-loop-group

@@ -1,5 +1,5 @@
 use Rattle.std.proofs.Common.{◌≡◌, drop}
-use Rattle.c_meaning_laws.specs.ShapeOf.{has_default_label}
+use Rattle.c_meaning.specs.ShapeOf.{has_default_label}
 use Rattle.flow_graph.proofs.statements.has_default_label.Given as goal
 
 abbrev pub invariant-loop-label : goal.invariant-loop-label

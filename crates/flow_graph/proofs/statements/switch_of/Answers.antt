@@ -1,6 +1,6 @@
 use Rattle.std.proofs.Common.{◌∙◌, ap}
-use Rattle.c_meaning_laws.specs.Shape.{Cases}
-use Rattle.c_meaning_laws.specs.ShapeOf.{seq_two}
+use Rattle.c_meaning.specs.Shape.{Cases}
+use Rattle.c_meaning.specs.ShapeOf.{seq_two}
 use Rattle.flow_graph.specs.View.{shape_of, parts_of}
 use Rattle.flow_graph.proofs.Rows.{cases_is}
 use Rattle.flow_graph.proofs.Trees.{same_shape}

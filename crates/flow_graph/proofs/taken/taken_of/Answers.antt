@@ -1,7 +1,7 @@
 use Rattle.std.proofs.Common.{◌∙◌, ◌+◌, ap}
 use Rattle.c_tree.specs.Functions.{defined}
 use Rattle.c_tree.specs.View.{program_of}
-use Rattle.c_meaning_laws.specs.CallGraph.{is_taken}
+use Rattle.c_meaning.specs.CallGraph.{is_taken}
 use Rattle.flow_graph.proofs.TakenLemmas.{taken_more, taken_end}
 use Rattle.flow_graph.proofs.taken.taken_of.Goals as goal
 

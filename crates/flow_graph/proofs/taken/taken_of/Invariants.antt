@@ -2,7 +2,7 @@ use Rattle.std.proofs.Common.{◌≡◌, ◌+◌, filter}
 use Rattle.std.specs.List.{range_with_len}
 use Rattle.c_tree.specs.Functions.{defined}
 use Rattle.c_tree.specs.View.{program_of}
-use Rattle.c_meaning_laws.specs.CallGraph.{is_taken}
+use Rattle.c_meaning.specs.CallGraph.{is_taken}
 use Rattle.flow_graph.proofs.taken.taken_of.Given as goal
 
 abbrev pub invariant-loop-x : goal.invariant-loop-x

@@ -1,7 +1,7 @@
 use Rattle.std.proofs.Common.{min, ap, ◌∙◌}
 use Rattle.flow_graph.specs.View.{shape_of}
 use Rattle.flow_graph.proofs.PartsLemmas.{weight, seq_width, cases_width, one_more}
-use Rattle.c_meaning_laws.specs.GraphLayout.{width}
+use Rattle.c_meaning.specs.GraphLayout.{width}
 use Rattle.flow_graph.proofs.width.+width.Goals as goal
 
 pub width_of-returns-in-Seq : goal.width_of-returns-in-Seq

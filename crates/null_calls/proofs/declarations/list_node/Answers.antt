@@ -1,4 +1,4 @@
-use Rattle.null_calls_expressions.proofs.Rows.{list_is}
+use Rattle.c_syntax.proofs.NodeRows.{list_is}
 use Rattle.null_calls.proofs.declarations.list_node.Goals as goal
 
 pub returns : goal.returns

@@ -1,4 +1,4 @@
-use Rattle.null_calls_expressions.proofs.Rows.{block_is}
+use Rattle.c_syntax.proofs.NodeRows.{block_is}
 use Rattle.null_calls.proofs.statement_nodes.block_node.Goals as goal
 
 pub returns : goal.returns

@@ -1,4 +1,4 @@
-use Rattle.null_calls_expressions.proofs.Rows.{switch_is}
+use Rattle.c_syntax.proofs.NodeRows.{switch_is}
 use Rattle.null_calls.proofs.statement_nodes.switch_node.Goals as goal
 
 pub returns : goal.returns

@@ -1,6 +1,6 @@
 use Rattle.std.proofs.Common.{◌≡◌, drop}
 use Rattle.c_syntax.specs.UnitView.{items_of}
-use Rattle.null_calls_expressions.specs.Seen.{seen}
+use Rattle.c_syntax.specs.SeenNames.{seen}
 use Rattle.null_calls_expressions.specs.Sited.{sited}
 use Rattle.null_calls_expressions.specs.Instrumented as marks
 use Rattle.null_calls.proofs.Turns.{onto}

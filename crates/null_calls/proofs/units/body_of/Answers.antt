@@ -2,7 +2,7 @@ use Rattle.std.proofs.Common.{◌++◌, ◌∙◌, ap}
 use Rattle.c_syntax.specs.UnitView.{stmt_of}
 use Rattle.c_syntax.specs.WritesUnit.{block_items_of}
 use Rattle.c_rules.specs.Functions.{items_of_body}
-use Rattle.null_calls_expressions.specs.Seen.{seen}
+use Rattle.c_syntax.specs.SeenNames.{seen}
 use Rattle.null_calls_expressions.specs.Sited.{sited}
 use Rattle.null_calls_expressions.specs.Temporaries.{declared_before}
 use Rattle.null_calls_expressions.specs.InstrumentedStatements as parts

@@ -1,7 +1,7 @@
 use Rattle.std.proofs.Common.{◌∙◌, ap, rules}
 use Rattle.c_tree.specs.View.{program_of}
 use Rattle.c_syntax.specs.UnitView.{item_at, items_of}
-use Rattle.null_calls_expressions.specs.Seen.{seen}
+use Rattle.c_syntax.specs.SeenNames.{seen}
 use Rattle.null_calls_expressions.specs.Sited.{sited}
 use Rattle.null_calls_expressions.specs.Instrumented as marks
 use Rattle.null_calls.proofs.UnitLemmas.{two_first, unit_made}

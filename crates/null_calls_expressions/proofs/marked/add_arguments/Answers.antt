@@ -1,8 +1,9 @@
 use Rattle.std.proofs.Common.{◌≡◌, ◌∙◌, length, ap, arith}
-use Rattle.c_syntax.specs.Tree.{a_name}
+use Rattle.c_syntax.specs.Tree.{a_name, more_exprs}
 use Rattle.c_syntax.specs.View.{expr_of}
 use Rattle.null_calls_temporaries.specs.Temporaries.{argument_name}
 use Rattle.null_calls_temporaries.specs.InstrumentedExpressions as marks
+use Rattle.null_calls_expressions.specs.Lists.{exprs_onto}
 use Rattle.null_calls_expressions.proofs.MarkedLemmas.{none_kept, none_passed, keeps_more, passes_more, all_kept, all_passed}
 use Rattle.null_calls_expressions.proofs.marked.add_arguments.Goals as goal
 
@@ -22,9 +23,9 @@ loop-one-preserved c =
     let i_is : c.len-i.result ≡ length passed = omega (arith, c.len-i.ensures) in
     record {
       counted = omega (arith, c.loop-one.invariant.counted, ap length c.in-Some.ensures.steps.0, c.in-Some.ensures.steps.1);
-      keeps = keeps_more c.args.at c.args.site x c.in_ok-kept.kept _ items xs passed c.push.new.self.items c.in-Some.ensures.steps.0 c.in_ok-push.ensures.items c.loop-one.list.items c.add.new.list.items _ c.loop-one.invariant.keeps
-          (c.in_ok-kept.ensures ∙ ap (λ n. marks.kept_in c.args.at n (expr_of x)) (c.in_ok-name.ensures ∙ ap (argument_name c.args.site) i_is)) c.in_ok-add.ensures;
-      gives = passes_more c.args.at c.args.site x c.in_ok-kept.kept _ items xs passed c.push.new.self.items c.in-Some.ensures.steps.0 c.in_ok-push.ensures.items _ c.loop-one.invariant.gives (c.name_node.ensures ∙ ap (a_name c.args.at) (c.in_ok-again.ensures ∙ ap (argument_name c.args.site) i_is));
+      keeps = keeps_more c.args.at c.args.site x c.in_ok-given.given items xs passed c.push.new.self.items c.in-Some.ensures.steps.0 c.in_ok-push.ensures.items c.loop-one.list.items c.add_argument.new.list.items _ c.loop-one.invariant.keeps
+          (λ rest. c.in_ok-given.ensures.keeps rest ∙ ap (λ n. exprs_onto c.loop-one.list.items (more_exprs (marks.kept_in c.args.at (argument_name c.args.site n) (expr_of x)) rest)) i_is);
+      gives = passes_more c.args.at c.args.site x c.in_ok-given.given items xs passed c.push.new.self.items c.in-Some.ensures.steps.0 c.in_ok-push.ensures.items _ c.loop-one.invariant.gives (c.in_ok-given.ensures.gives ∙ ap (λ n. a_name c.args.at (argument_name c.args.site n)) i_is);
     }
 
 pub returns-clause-keeps : goal.returns-clause-keeps

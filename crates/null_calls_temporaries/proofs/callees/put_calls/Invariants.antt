@@ -1,7 +1,7 @@
 use Rattle.std.proofs.Common.{◌≡◌, ◌<◌, ◌-◌, ℕ, length, drop, None}
 use Rattle.std.specs.Prelude.{slice_index_or}
-use Rattle.c_meaning_laws.specs.CallGraph.{callee_at}
-use Rattle.call_graph.specs.Saying.{said}
+use Rattle.c_meaning.specs.CallGraph.{callee_at}
+use Rattle.flow_graph.specs.Saying.{said}
 use Rattle.null_calls_temporaries.specs.Callees.{callee_where}
 use Rattle.null_calls_temporaries.proofs.callees.put_calls.Given as goal
 

@@ -1,6 +1,6 @@
 use Rattle.std.proofs.Common.{rules}
 use Rattle.c_syntax.specs.UnitView.{decl_of}
-use Rattle.c_syntax_nodes.specs.Seen.{seen}
+use Rattle.c_syntax.specs.SeenNames.{seen}
 use Rattle.null_calls_temporaries.proofs.KeptLemmas.{declared_more, declared_end}
 use Rattle.null_calls_temporaries.proofs.declaring.declared.Goals as goal
 

@@ -1,6 +1,6 @@
 use Rattle.std.proofs.Common.{◌≡◌, drop}
 use Rattle.c_syntax.specs.Tree.{BlockItems}
-use Rattle.c_syntax_nodes.specs.Seen.{seen}
+use Rattle.c_syntax.specs.SeenNames.{seen}
 use Rattle.null_calls_laws.specs.Temporaries.{declared_before}
 use Rattle.null_calls_temporaries.specs.Kept.{temporaries_of, items_onto}
 use Rattle.null_calls_temporaries.proofs.declaring.declared.Given as goal

@@ -1,7 +1,7 @@
 use Rattle.std.proofs.Common.{ap, ◌∙◌}
 use Rattle.c_tree.specs.View.{ctype_of}
 use Rattle.c_syntax.specs.View.{spec_of}
-use Rattle.c_syntax_nodes.specs.Seen.{seen}
+use Rattle.c_syntax.specs.SeenNames.{seen}
 use Rattle.c_syntax_nodes.proofs.CopyLemmas.{made_as}
 use Rattle.null_calls_laws.specs.SpelledTypes as types
 use Rattle.null_calls_temporaries.proofs.SpelledLemmas.{function_spec}

@@ -3,7 +3,7 @@ use Rattle.c_tree.specs.View.{ctype_of}
 use Rattle.c_syntax.specs.Tree.{function, nothing}
 use Rattle.c_syntax.specs.View.{declarator_of}
 use Rattle.c_syntax.specs.Writes.{params_of}
-use Rattle.c_syntax_nodes.specs.Seen.{seen}
+use Rattle.c_syntax.specs.SeenNames.{seen}
 use Rattle.c_syntax_nodes.proofs.CopyLemmas.{made_as}
 use Rattle.null_calls_laws.specs.SpelledTypes as types
 use Rattle.null_calls_temporaries.specs.Spelled.{spelled_param}

@@ -1,6 +1,6 @@
 use Rattle.std.proofs.Common.{◌≡◌, map, take}
 use Rattle.c_syntax_nodes.specs.Copied.{param_of}
-use Rattle.c_syntax_nodes.specs.Seen.{seen}
+use Rattle.c_syntax.specs.SeenNames.{seen}
 use Rattle.null_calls_temporaries.specs.Spelled.{spelled_param}
 use Rattle.null_calls_temporaries.proofs.spelled.+spelled.Given as goal
 

@@ -1,7 +1,7 @@
 use Rattle.std.proofs.Common.{◌∙◌, refl}
 use Rattle.c_tree.specs.View.{ctype_of, program_of, function_of}
-use Rattle.call_graph.proofs.ReachingLemmas.{map_get}
-use Rattle.call_graph.proofs.TypesLemmas.{defined_type}
+use Rattle.flow_graph.proofs.ReachingLemmas.{map_get}
+use Rattle.flow_graph.proofs.TypesLemmas.{defined_type}
 use Rattle.null_calls_temporaries.proofs.SiteLemmas.{called_by}
 use Rattle.null_calls_temporaries.proofs.table.called_directly.Goals as goal
 

@@ -6,9 +6,9 @@ use Rattle.c_tree.specs.Program.{IsProgram}
 use Rattle.c_tree.specs.Tree.{Program}
 use Rattle.c_meaning.specs.Runs.{Run, no_marks}
 use Rattle.c_tree.specs.View.{program_of}
-use Rattle.c_meaning_laws.specs.ProgramLanguages.{Callgraph, Stack}
-use Rattle.c_meaning_laws.specs.Callees.{CalleesAreCandidates}
-use Rattle.c_meaning_laws.specs.Laws.{IsTypedRun, RunsBeginTyped, TypesAreKept}
+use Rattle.c_meaning.specs.ProgramLanguages.{Callgraph, Stack}
+use Rattle.c_meaning.specs.Callees.{CalleesAreCandidates}
+use Rattle.c_meaning.specs.Laws.{IsTypedRun, RunsBeginTyped, TypesAreKept}
 use Rattle.ref_machine.specs.KeptTypes.{HasFunctionValues}
 use Rattle.ref_machine.proofs.running.run.Goals as goal
 

@@ -1,6 +1,6 @@
 use Rattle.std.proofs.Common.{◌≡◌, take}
 use Rattle.c_tree.specs.View.{program_of}
-use Rattle.call_places.specs.Seen.{seen}
+use Rattle.c_check_counts.specs.SeenCalls.{seen}
 use Rattle.site_lines.specs.SiteLines.{site_lines}
 use Rattle.site_lines.proofs.lines.lines_of.Given as goal
 

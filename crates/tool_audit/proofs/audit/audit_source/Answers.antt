@@ -1,7 +1,7 @@
 use Rattle.std.proofs.lemmas.Result.{err_from_is_err_and}
 use Rattle.null_calls_laws.specs.MarkedRuns.{marked_run}
 use Rattle.c_tree.specs.View.{program_of}
-use Rattle.c_meaning_laws.specs.GraphOfProgram.{graph_of_program}
+use Rattle.c_meaning.specs.GraphOfProgram.{graph_of_program}
 use Rattle.tool_steps.proofs.RecordedRuns.{read_so}
 use Rattle.tool_audit.proofs.StopLemmas.{audits, stops_at_results, stops_at_graph}
 use Rattle.tool_audit.proofs.Verdicts.{audit_ends}

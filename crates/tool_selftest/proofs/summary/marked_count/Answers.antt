@@ -1,5 +1,5 @@
 use Rattle.std.proofs.Common.{arith}
-use Rattle.c_meaning_laws.specs.CallGraph.{marked}
+use Rattle.c_meaning.specs.CallGraph.{marked}
 use Rattle.c_tree.specs.View.{program_of}
 use Rattle.tool_selftest.proofs.SummaryLemmas.{at_most_one, counted_more, counted_all}
 use Rattle.tool_selftest.proofs.summary.marked_count.Goals as goal

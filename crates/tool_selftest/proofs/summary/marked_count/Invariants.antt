@@ -1,6 +1,6 @@
 use Rattle.std.proofs.Common.{◌≡◌, ◌≤◌, length, filter}
 use Rattle.std.specs.List.{range_with_len}
-use Rattle.c_meaning_laws.specs.CallGraph.{marked}
+use Rattle.c_meaning.specs.CallGraph.{marked}
 use Rattle.c_tree.specs.View.{program_of}
 use Rattle.tool_selftest.proofs.summary.marked_count.Given as goal
 

@@ -1,16 +1,16 @@
 use Rattle.std.proofs.Common.{◌∷◌, ◌++◌, [], length, refl, sym, ap, ◌∙◌, inl, arith}
 use Rattle.std.proofs.Common.{rules, ◌-◌}
-use Rattle.std.proofs.lemmas.Result.{err_from_is_err_and}
+use Rattle.std.proofs.lemmas.Result.{err_from_is_err_and, IfOk-weaker}
 use denote.Enum.Bare.{same_false, same_true}
 use Rattle.c_syntax.specs.Tree.{dot, arrow, post_increment, post_decrement, array, function}
 use Rattle.c_parser_phrases.specs.contracts.form.Form.{the_type}
 use Rattle.c_parser_phrases.specs.Making.{inner_of, size_of, list_of}
 use Rattle.c_parser_phrases.proofs.Known.{not_there}
 use Rattle.c_parser_phrases.proofs.Exits.{over, paired, suits_made, suits_array, suits_function}
-use Rattle.c_parser_phrases.proofs.Adding.{index_adds, member_adds, step_adds, none_taken, some_taken, suffix_is, suffixes_read, array_adds, function_adds, lengthened_read, size_read, size_absent}
-use Rattle.c_parser_phrases.proofs.Made.{list_first, list_grown, list_ends, no_commas, comma_made, no_assigned, assign_made, no_chosen, choice_made, binary_first, binary_made, binary_end, uncast_made, cast_made, no_prefixed, sizeof_ends, tree_raised, shorter_before, shorter_after, short_before, step_made, unary_made, sizeof_expression_made, sizeof_type_made, parentheses_made, type_made}
+use Rattle.c_parser_phrases.proofs.Adding.{index_adds, member_adds, step_adds, none_taken, some_taken, suffix_is, suffixes_read, suffix_made, call_adds, part_made, array_adds, function_adds, lengthened_read, size_read, size_absent}
+use Rattle.c_parser_phrases.proofs.Made.{when_read, tree_made, list_first, list_grown, list_ends, no_commas, comma_made, no_assigned, assign_made, no_chosen, choice_made, binary_first, binary_made, binary_end, uncast_made, cast_made, no_prefixed, sizeof_ends, tree_raised, shorter_before, shorter_after, short_before, step_made, unary_made, sizeof_expression_made, sizeof_type_made, parentheses_made, type_made}
 use Rattle.c_parser_phrases.proofs.Made.{first_height as exprs_first_height, grown_height as exprs_grown_height}
-use Rattle.c_parser_phrases.proofs.Declaring.{pointer_made, name_made, nothing_made, there_is, brackets_made, param_made, params_read, each_first, each_grown, some_first, some_grown, alone_read}
+use Rattle.c_parser_phrases.proofs.Declaring.{declared_made, core_made, pointer_made, name_made, nothing_made, there_is, brackets_made, param_made, params_read, each_first, each_grown, some_first, some_grown, alone_read}
 use Rattle.c_parser_phrases.proofs.Declaring.{first_height as params_first_height, grown_height as params_grown_height}
 use Rattle.c_syntax.specs.Tokens.{place}
 use Rattle.c_lexer.specs.declared.punctuator.TheConstants.{LEFT_PARENTHESIS, ASTERISK, QUESTION, COMMA}
@@ -41,7 +41,7 @@ pub assignment_expression-returns-in_default-clause-parses : goal.assignment_exp
 assignment_expression-returns-in_default-clause-parses t c = no_assigned (c.in_ok-whole.ensures.parses _ c.place-at.ensures c.in_ok-operand.ensures.parses.0 c.in_ok-operand.ensures.parses.1 c.in_ok-operand.ensures.deep) (not_there c.is_at_assignment.result c.if-is_at_assignment.false c.is_at_assignment.ensures)
 
 pub assignment_expression-returns-clause-parses : goal.assignment_expression-returns-clause-parses
-assignment_expression-returns-clause-parses t c = assign_made c.in_node.ensures.pairs c.place-at.ensures c.in_ok-operand.ensures.parses (not_there c.is_at_cast-is_cast.result c.if-is_cast.false c.is_at_cast-is_cast.ensures.stands) c.in-Some.ensures.stands c.skip.ensures.skips c.in_ok-value.ensures.parses c.in_ok-whole-2.ensures.makes
+assignment_expression-returns-clause-parses t c = tree_made c.args.room c.assign_node.result c.assign_node.ensures.makes (λ w v. assign_made c.in_node.ensures.pairs c.place-at.ensures c.in_ok-operand.ensures.parses (not_there c.is_at_cast-is_cast.result c.if-is_cast.false c.is_at_cast-is_cast.ensures.stands) c.in-Some.ensures.stands c.skip.ensures.skips c.in_ok-value.ensures.parses v)
 
 pub binary_from-loop-operator-init : goal.binary_from-loop-operator-init
 binary_from-loop-operator-init t c = record { reads = λ s p r z. binary_first r z; deep = λ d. d; fits = c.requires.operand_low; shorter = omega arith }
@@ -61,22 +61,22 @@ pub cast_expression-returns-then-not-is_at_cast-clause-parses : goal.cast_expres
 cast_expression-returns-then-not-is_at_cast-clause-parses t c = tree_raised c.unary_expression.result c.unary_expression.ensures.parses (λ e s. uncast_made s) (bare_cast (not_there c.is_at_cast.result c.if-not-is_at_cast.true c.is_at_cast.ensures.stands)) (λ at y o. cast_opens o)
 
 pub cast_expression-returns-clause-parses : goal.cast_expression-returns-clause-parses
-cast_expression-returns-clause-parses t c = cast_made c.in_node.ensures.pairs c.in_node-2.ensures.pairs c.place-at.ensures (c.is_at_cast.ensures.stands.0 c.if-not-is_at_cast.false) c.skip.ensures.skips c.in_ok-target.ensures.parses.0 c.if-not-take.ensures c.in_ok-operand.ensures.parses c.in_ok-whole.ensures.makes
+cast_expression-returns-clause-parses t c = tree_made c.args.room c.cast_node.result c.cast_node.ensures.makes (λ w v. cast_made c.in_node.ensures.pairs c.in_node-2.ensures.pairs c.place-at.ensures (c.is_at_cast.ensures.stands.0 c.if-not-is_at_cast.false) c.skip.ensures.skips c.in_ok-target.ensures.parses.0 c.if-not-take.ensures c.in_ok-operand.ensures.parses v)
 
 pub comma_expression-returns-then-not-is_at-clause-parses : goal.comma_expression-returns-then-not-is_at-clause-parses
 comma_expression-returns-then-not-is_at-clause-parses t c = no_commas c.in_ok-first.ensures.parses (not_there c.is_at.result c.if-not-is_at.true c.is_at.ensures.stands)
 
 pub comma_expression-returns-clause-parses : goal.comma_expression-returns-clause-parses
-comma_expression-returns-clause-parses t c = comma_made c.in_node.ensures.pairs c.place-at.ensures c.in_ok-first.ensures.parses (c.is_at.ensures.stands.0 c.if-not-is_at.false) (λ r s. c.in_ok-list.ensures.parses _ r s) c.in_ok-whole.ensures.makes
+comma_expression-returns-clause-parses t c = tree_made c.args.room c.comma_node.result c.comma_node.ensures.makes (λ w v. comma_made c.in_node.ensures.pairs c.place-at.ensures c.in_ok-first.ensures.parses (c.is_at.ensures.stands.0 c.if-not-is_at.false) (λ r s. c.in_ok-list.ensures.parses _ r s) v)
 
 pub conditional_from-returns-then-not-is_at-clause-parses : goal.conditional_from-returns-then-not-is_at-clause-parses
 conditional_from-returns-then-not-is_at-clause-parses t c = λ s p r z d. no_chosen (c.in_ok-test.ensures.parses s p r z d) (not_there c.is_at.result c.if-not-is_at.true c.is_at.ensures.stands)
 
 pub conditional_from-returns-clause-parses : goal.conditional_from-returns-clause-parses
-conditional_from-returns-clause-parses t c = λ s p r z d. choice_made c.in_node.ensures.pairs c.in_node-2.ensures.pairs p (c.in_ok-test.ensures.parses s p r z d) (c.is_at.ensures.stands.0 c.if-not-is_at.false) c.skip.ensures.skips c.in_ok-yes.ensures.parses c.if-not-take.ensures c.in_ok-no.ensures.parses c.in_ok-whole.ensures.makes
+conditional_from-returns-clause-parses t c = λ s p r z d. tree_made c.args.room c.conditional_node.result c.conditional_node.ensures.makes (λ w v. choice_made c.in_node.ensures.pairs c.in_node-2.ensures.pairs p (c.in_ok-test.ensures.parses s p r z d) (c.is_at.ensures.stands.0 c.if-not-is_at.false) c.skip.ensures.skips c.in_ok-yes.ensures.parses c.if-not-take.ensures c.in_ok-no.ensures.parses v)
 
 pub core-returns-then-is_at_name-clause-parses : goal.core-returns-then-is_at_name-clause-parses
-core-returns-then-is_at_name-clause-parses t c = λ ns. let m = name_made c.args.form c.in_ok-name.name c.place-at.ensures c.in_ok-name.ensures.parses (same_false the_type _ _ (sym c.if-eq.ensures)) c.in_ok-whole.ensures.makes in (m.0, m.1, inl (named_there c.in_ok-whole.ensures.makes))
+core-returns-then-is_at_name-clause-parses t c = λ ns. core_made c.args.room c.args.form _ c.name_node.result c.name_node.ensures.makes (λ w v. let m = name_made c.args.form c.in_ok-name.name c.place-at.ensures c.in_ok-name.ensures.parses (same_false the_type _ _ (sym c.if-eq.ensures)) v in (m.0, m.1, inl (named_there v)))
 
 pub core-returns-then-not-opens-clause-parses : goal.core-returns-then-not-opens-clause-parses
 core-returns-then-not-opens-clause-parses t c = λ ns. let m = nothing_made c.args.form (same_false the_type _ _ (sym c.if-eq-2.ensures)) c.no_declarator.ensures.makes in (m.0, m.1, bare_core c.args.form c.no_declarator.ensures.makes ns (not_there c.is_at_name.result c.if-is_at_name.false c.is_at_name.ensures) c.if-not-opens.ensures.stands)
@@ -91,7 +91,7 @@ pub declared-returns-then-not-is_at-clause-shorter : goal.declared-returns-then-
 declared-returns-then-not-is_at-clause-shorter t c = short_before _ c.lengthened.result c.lengthened.ensures.shorter c.in_ok-core.ensures.shorter
 
 pub declared-returns-clause-parses : goal.declared-returns-clause-parses
-declared-returns-clause-parses t c = pointer_made c.args.form c.in_node.ensures.pairs c.place-at.ensures (c.is_at.ensures.stands.0 c.if-not-is_at.false) c.skip.ensures.skips c.consts.ensures.took c.in_ok-inner.ensures.parses c.in_ok-whole.ensures.makes
+declared-returns-clause-parses t c = declared_made c.args.room c.args.form c.pointer_node.result c.pointer_node.ensures.makes (λ w v. pointer_made c.args.form c.in_node.ensures.pairs c.place-at.ensures (c.is_at.ensures.stands.0 c.if-not-is_at.false) c.skip.ensures.skips c.consts.ensures.took c.in_ok-inner.ensures.parses v)
 
 pub expressions_from-loop-alloc-init : goal.expressions_from-loop-alloc-init
 expressions_from-loop-alloc-init t c = record {
@@ -157,10 +157,10 @@ pub parameters-returns-clause-parses : goal.parameters-returns-clause-parses
 parameters-returns-clause-parses t c = (params_read c.loop-alloc.params.items c.loop-alloc.invariant.reads c.loop-alloc.invariant.some c.loop-alloc-test.ensures, record { leads = λ b r f. c.loop-alloc.invariant.leads b r (fails_at (sym c.loop-alloc-test.ensures.1) f); no_comma = λ h. c.loop-alloc-test.ensures.0 (at_from COMMA (sym c.loop-alloc-test.ensures.1) h) })
 
 pub part-returns-then-take-clause-parses : goal.part-returns-then-take-clause-parses
-part-returns-then-take-clause-parses t c = (λ e k s. array_adds c.in_node.ensures.pairs c.if-take.ensures.1 c.if-take.ensures.2 c.in_ok-size.ensures.parses.0 c.if-not-take.ensures.1 c.if-not-take.ensures.2 c.in_ok-whole.ensures.makes s, λ form h. suits_made form (inner_of c.in_ok-whole.whole) (array c.args.at (inner_of c.args.left) (size_of c.in_ok-size.size)) c.in_ok-whole.ensures.makes (suits_array form c.args.at (inner_of c.args.left) (size_of c.in_ok-size.size) h))
+part-returns-then-take-clause-parses t c = part_made c.args.room c.array_node.result c.array_node.ensures.makes (λ w v. (λ e k s. array_adds c.in_node.ensures.pairs c.if-take.ensures.1 c.if-take.ensures.2 c.in_ok-size.ensures.parses.0 c.if-not-take.ensures.1 c.if-not-take.ensures.2 v s, λ form h. suits_made form w (array c.args.at (inner_of c.args.left) (size_of c.in_ok-size.size)) v (suits_array form c.args.at (inner_of c.args.left) (size_of c.in_ok-size.size) h)))
 
 pub part-returns-clause-parses : goal.part-returns-clause-parses
-part-returns-clause-parses t c = (λ e k s. function_adds c.in_node-2.ensures.pairs c.if-not-take-2.ensures.1 (sym c.if-take.ensures.1 ∙ c.if-not-take-2.ensures.2) c.in_ok-list.ensures.parses.0 c.if-not-take-3.ensures.1 c.if-not-take-3.ensures.2 c.in_ok-whole-2.ensures.makes s, λ form h. suits_made form (inner_of c.in_ok-whole-2.whole) (function c.args.at (inner_of c.args.left) (list_of c.in_ok-list.list)) c.in_ok-whole-2.ensures.makes (suits_function form c.args.at (inner_of c.args.left) (list_of c.in_ok-list.list) h))
+part-returns-clause-parses t c = part_made c.args.room c.function_node.result c.function_node.ensures.makes (λ w v. (λ e k s. function_adds c.in_node-2.ensures.pairs c.if-not-take-2.ensures.1 (sym c.if-take.ensures.1 ∙ c.if-not-take-2.ensures.2) c.in_ok-list.ensures.parses.0 c.if-not-take-3.ensures.1 c.if-not-take-3.ensures.2 v s, λ form h. suits_made form w (function c.args.at (inner_of c.args.left) (list_of c.in_ok-list.list)) v (suits_function form c.args.at (inner_of c.args.left) (list_of c.in_ok-list.list) h)))
 
 pub postfix_expression-returns-clause-parses : goal.postfix_expression-returns-clause-parses
 postfix_expression-returns-clause-parses t c = (suffixes_read c.loop-suffix.invariant.at c.loop-suffix.invariant.reads, c.in_default.ensures.stands (over _ 0 (omega arith) (not_there c.is_at_string.result c.if-is_at_string.false c.is_at_string.ensures)))
@@ -175,25 +175,25 @@ pub size-returns-clause-parses : goal.size-returns-clause-parses
 size-returns-clause-parses t c = (size_read c.in_ok-size.ensures.parses.0 c.some_size.ensures.makes, λ n b. size_unclosed (not_there c.is_at.result c.if-is_at.false c.is_at.ensures.stands) c.in_ok-size.ensures.parses n b)
 
 pub sizeof_expression-returns-then-not-is_at_cast-clause-parses : goal.sizeof_expression-returns-then-not-is_at_cast-clause-parses
-sizeof_expression-returns-then-not-is_at_cast-clause-parses t c = λ t h p. sizeof_expression_made c.in_node.ensures.pairs h p c.in_ok-inside.ensures.parses c.in_ok-whole.ensures.makes
+sizeof_expression-returns-then-not-is_at_cast-clause-parses t c = λ t h p. tree_made c.args.room c.sizeof_node.result c.sizeof_node.ensures.makes (λ w v. sizeof_expression_made c.in_node.ensures.pairs h p c.in_ok-inside.ensures.parses v)
 
 pub sizeof_expression-returns-clause-parses : goal.sizeof_expression-returns-clause-parses
-sizeof_expression-returns-clause-parses t c = λ t h p. sizeof_type_made c.in_node-2.ensures.pairs h p (c.is_at_cast.ensures.stands.0 c.if-not-is_at_cast.false) c.skip.ensures.skips c.in_ok-target.ensures.parses.0 c.if-not-take.ensures (not_there c.is_at_suffix.result c.if-is_at_suffix.false c.is_at_suffix.ensures) c.in_ok-whole-2.ensures.makes
+sizeof_expression-returns-clause-parses t c = λ t h p. tree_made c.args.room c.sizeof_type_node.result c.sizeof_type_node.ensures.makes (λ w v. sizeof_type_made c.in_node-2.ensures.pairs h p (c.is_at_cast.ensures.stands.0 c.if-not-is_at_cast.false) c.skip.ensures.skips c.in_ok-target.ensures.parses.0 c.if-not-take.ensures (not_there c.is_at_suffix.result c.if-is_at_suffix.false c.is_at_suffix.ensures) v)
 
-pub suffixed-returns-in_ok-whole-in-Index-clause-parses : goal.suffixed-returns-in_ok-whole-in-Index-clause-parses
-suffixed-returns-in_ok-whole-in-Index-clause-parses t c = λ t h e k s. index_adds c.in_node.ensures.pairs (suffix_is t c.in-Index.is h) c.in_ok-inside-in-Index.ensures.parses.0 c.if-not-take.ensures.1 c.if-not-take.ensures.2 c.in_ok-whole-in-Index.ensures.makes s
+pub suffixed-returns-else-not-take-clause-parses : goal.suffixed-returns-else-not-take-clause-parses
+suffixed-returns-else-not-take-clause-parses t c = λ t h. suffix_made c.args.room c.index_node.result c.index_node.ensures.makes (λ w v e k s. index_adds c.in_node.ensures.pairs (suffix_is t c.in-Index.is h) c.in_ok-inside-in-Index.ensures.parses.0 c.if-not-take.ensures.1 c.if-not-take.ensures.2 v s)
 
-pub suffixed-returns-in_ok-whole-in-Dot-clause-parses : goal.suffixed-returns-in_ok-whole-in-Dot-clause-parses
-suffixed-returns-in_ok-whole-in-Dot-clause-parses t c = λ t h e k s. member_adds {access = dot} (suffix_is t c.in-Dot.is h) c.in_ok-name-in-Dot.ensures.parses.names c.in_ok-name-in-Dot.ensures.parses.stood c.in_ok-whole-in-Dot.ensures.makes s
+pub suffixed-returns-in_ok-name-in-Dot-clause-parses : goal.suffixed-returns-in_ok-name-in-Dot-clause-parses
+suffixed-returns-in_ok-name-in-Dot-clause-parses t c = λ t h. suffix_made c.args.room c.member_node.result c.member_node.ensures.makes (λ w v e k s. member_adds {access = dot} (suffix_is t c.in-Dot.is h) c.in_ok-name-in-Dot.ensures.parses.names c.in_ok-name-in-Dot.ensures.parses.stood v s)
 
-pub suffixed-returns-in_ok-whole-in-Arrow-clause-parses : goal.suffixed-returns-in_ok-whole-in-Arrow-clause-parses
-suffixed-returns-in_ok-whole-in-Arrow-clause-parses t c = λ t h e k s. member_adds {access = arrow} (suffix_is t c.in-Arrow.is h) c.in_ok-name-in-Arrow.ensures.parses.names c.in_ok-name-in-Arrow.ensures.parses.stood c.in_ok-whole-in-Arrow.ensures.makes s
+pub suffixed-returns-in_ok-name-in-Arrow-clause-parses : goal.suffixed-returns-in_ok-name-in-Arrow-clause-parses
+suffixed-returns-in_ok-name-in-Arrow-clause-parses t c = λ t h. suffix_made c.args.room c.arrow_node.result c.arrow_node.ensures.makes (λ w v e k s. member_adds {access = arrow} (suffix_is t c.in-Arrow.is h) c.in_ok-name-in-Arrow.ensures.parses.names c.in_ok-name-in-Arrow.ensures.parses.stood v s)
 
-pub suffixed-returns-in_ok-whole-in-Increment-clause-parses : goal.suffixed-returns-in_ok-whole-in-Increment-clause-parses
-suffixed-returns-in_ok-whole-in-Increment-clause-parses t c = λ t h e k s. step_adds {p = post_increment} (suffix_is t c.in-Increment.is h) c.in_ok-whole-in-Increment.ensures.makes s
+pub suffixed-returns-in-Increment-clause-parses : goal.suffixed-returns-in-Increment-clause-parses
+suffixed-returns-in-Increment-clause-parses t c = λ t h. suffix_made c.args.room c.increased_node.result c.increased_node.ensures.makes (λ w v e k s. step_adds {p = post_increment} (suffix_is t c.in-Increment.is h) v s)
 
-pub suffixed-returns-in_ok-whole-in-Decrement-clause-parses : goal.suffixed-returns-in_ok-whole-in-Decrement-clause-parses
-suffixed-returns-in_ok-whole-in-Decrement-clause-parses t c = λ t h e k s. step_adds {p = post_decrement} (suffix_is t c.in-Decrement.is h) c.in_ok-whole-in-Decrement.ensures.makes s
+pub suffixed-returns-in-Decrement-clause-parses : goal.suffixed-returns-in-Decrement-clause-parses
+suffixed-returns-in-Decrement-clause-parses t c = λ t h. suffix_made c.args.room c.decreased_node.result c.decreased_node.ensures.makes (λ w v e k s. step_adds {p = post_decrement} (suffix_is t c.in-Decrement.is h) v s)
 
 pub type_name-returns-clause-parses : goal.type_name-returns-clause-parses
 type_name-returns-clause-parses t c = (type_made c.place-at.ensures c.in_ok-spec.ensures.parses.reads c.in_ok-inner.ensures.parses.0 c.in_ok-inner.ensures.parses.2 c.type_node.ensures.makes, c.in_ok-inner.ensures.parses.1)
@@ -206,9 +206,6 @@ comma_expression-returns-then-room-first-clause-parses t c = deep_at _ (comma_hi
 
 pub comma_expression-returns-in_err-list-clause-parses : goal.comma_expression-returns-in_err-list-clause-parses
 comma_expression-returns-in_err-list-clause-parses t c = let w = err_from_is_err_and c.from_residual-in_err-list.result c.from_residual-in_err-list.ensures.1 in rw (w.1, w.2) (raised_in (omega (arith, c.if-room-first.false)) c.in_node.ensures.nodes c.in_node.ensures.pairs c.in_err-list.ensures.refuses (comma_rest (c.is_at.ensures.stands.0 c.if-not-is_at.false) c.in_ok-first.ensures.parses) (λ at y o. comma_rest_opens c.in_ok-first.ensures.parses o))
-
-pub comma_expression-returns-in_err-whole-clause-parses : goal.comma_expression-returns-in_err-whole-clause-parses
-comma_expression-returns-in_err-whole-clause-parses t c = let w = err_from_is_err_and c.from_residual-in_err-whole.result c.from_residual-in_err-whole.ensures.1 in rw (w.1, w.2) no_memory
 
 pub expressions_from-returns-in_err-push-clause-refuses : goal.expressions_from-returns-in_err-push-clause-refuses
 expressions_from-returns-in_err-push-clause-refuses t c = let w = err_from_is_err_and c.from_residual.result c.from_residual.ensures.1 in rw (w.1, w.2) no_memory
@@ -237,9 +234,6 @@ assignment_expression-returns-then-room-operand-clause-parses t c = deep_at _ (a
 pub assignment_expression-returns-in_err-value-clause-parses : goal.assignment_expression-returns-in_err-value-clause-parses
 assignment_expression-returns-in_err-value-clause-parses t c = let w = err_from_is_err_and c.from_residual-in_err-value.result c.from_residual-in_err-value.ensures.1 in rw (w.1, w.2) (raised_in (omega (arith, c.if-room-operand.false)) c.in_node.ensures.nodes c.in_node.ensures.pairs c.in_err-value.ensures.parses (assigned_rest c.in-Some.ensures.stands c.skip.ensures.skips (uncast c.in_ok-operand.ensures.parses.0 (not_there c.is_at_cast-is_cast.result c.if-is_cast.false c.is_at_cast-is_cast.ensures.stands))) (λ at y o. assigned_rest_opens c.in-Some.ensures.stands c.skip.ensures.skips (uncast c.in_ok-operand.ensures.parses.0 (not_there c.is_at_cast-is_cast.result c.if-is_cast.false c.is_at_cast-is_cast.ensures.stands)) o))
 
-pub assignment_expression-returns-in_err-whole-2-clause-parses : goal.assignment_expression-returns-in_err-whole-2-clause-parses
-assignment_expression-returns-in_err-whole-2-clause-parses t c = let w = err_from_is_err_and c.from_residual-in_err-whole-2.result c.from_residual-in_err-whole-2.ensures.1 in rw (w.1, w.2) no_memory
-
 pub conditional_expression-returns-in_err-operand-clause-parses : goal.conditional_expression-returns-in_err-operand-clause-parses
 conditional_expression-returns-in_err-operand-clause-parses t c = let w = err_from_is_err_and c.from_residual.result c.from_residual.ensures.1 in rw (w.1, w.2) (raised c.in_err-operand.ensures.parses (λ b r f. test_fails (first_operand 10 f)) (λ at y o. test_opens (first_operand_opens 10 o)))
 
@@ -264,9 +258,6 @@ conditional_from-returns-then-not-take-clause-parses t c = λ s p r z d. wrong_h
 pub conditional_from-returns-in_err-no-clause-parses : goal.conditional_from-returns-in_err-no-clause-parses
 conditional_from-returns-in_err-no-clause-parses t c = λ s p r z d. let w = err_from_is_err_and c.from_residual-in_err-no.result c.from_residual-in_err-no.ensures.1 in rw (w.1, w.2) (raised_in (omega (arith, c.if-room-test.false)) c.in_node-2.ensures.nodes c.in_node-2.ensures.pairs c.in_err-no.ensures.parses (no_fails (c.is_at.ensures.stands.0 c.if-not-is_at.false) c.skip.ensures.skips (c.in_ok-test.ensures.parses s p r z d) c.in_ok-yes.ensures.parses c.if-not-take.ensures.1 c.if-not-take.ensures.2) (λ at y o. no_part_opens _ (c.is_at.ensures.stands.0 c.if-not-is_at.false) c.skip.ensures.skips (c.in_ok-test.ensures.parses s p r z d) (paired c.in_node.ensures.pairs c.in_ok-yes.ensures.parses.0, c.in_ok-yes.ensures.parses.1) c.if-not-take.ensures.1 c.if-not-take.ensures.2 o))
 
-pub conditional_from-returns-in_err-whole-clause-parses : goal.conditional_from-returns-in_err-whole-clause-parses
-conditional_from-returns-in_err-whole-clause-parses t c = λ s p r z d. let w = err_from_is_err_and c.from_residual-in_err-whole.result c.from_residual-in_err-whole.ensures.1 in rw (w.1, w.2) no_memory
-
 pub binary_from-returns-then-room-left-clause-parses : goal.binary_from-returns-then-room-left-clause-parses
 binary_from-returns-then-room-left-clause-parses t c = λ s p r z d. deep_at _ (operator_high c.in-Some.operator p (c.loop-operator.invariant.reads s p r z) c.in-Some.ensures.stands c.in-Some.ensures.some.1 c.if-room-left.true c.loop-operator.left.exact) (operator_deep c.in-Some.operator p (c.loop-operator.invariant.reads s p r z) c.in-Some.ensures.stands c.in-Some.ensures.some.1 c.if-room-left.true c.loop-operator.invariant.fits (c.loop-operator.invariant.deep d)) (some_is c.in-Some.ensures.stands.2)
 
@@ -277,7 +268,7 @@ pub binary_from-returns-in_err-right-clause-parses : goal.binary_from-returns-in
 binary_from-returns-in_err-right-clause-parses t c = λ s p r z d. let w = err_from_is_err_and c.from_residual-in_err-right.result c.from_residual-in_err-right.ensures.1 in rw (w.1, w.2) (raised_in (omega (arith, c.if-room-left.false)) c.in_node-in-Some.ensures.nodes c.in_node-in-Some.ensures.pairs (c.in_err-right.ensures.parses _ c.place-right_at.ensures (paired (c.in_node.ensures.pairs ∙ sym c.in_node-in-Some.ensures.pairs) c.in_ok-first.ensures.parses.0) c.in_ok-first.ensures.parses.1 c.in_ok-first.ensures.deep) (right_fails c.in-Some.operator p (c.loop-operator.invariant.reads s p r z) c.in-Some.ensures.stands c.in-Some.ensures.some.1 c.skip.ensures.skips refl) (λ at y o. right_opens c.in-Some.operator p (c.loop-operator.invariant.reads s p r z) c.in-Some.ensures.stands c.in-Some.ensures.some.1 c.skip.ensures.skips refl o))
 
 pub binary_from-returns-in_err-left-clause-parses : goal.binary_from-returns-in_err-left-clause-parses
-binary_from-returns-in_err-left-clause-parses t c = λ s p r z d. let w = err_from_is_err_and c.from_residual-in_err-left.result c.from_residual-in_err-left.ensures.1 in rw (w.1, w.2) no_memory
+binary_from-returns-in_err-left-clause-parses t c = λ s p r z d. let w = err_from_is_err_and c.from_residual-in_err-left.result c.from_residual-in_err-left.ensures.1 in rw (w.1, w.2, c.in_err-left.ensures.makes) no_memory
 
 pub cast_expression-returns-then-room-eq0-clause-parses : goal.cast_expression-returns-then-room-eq0-clause-parses
 cast_expression-returns-then-room-eq0-clause-parses t c = deep_at _ (no_nodes cast_level _ c.if-room-eq0.true) (cast_deep (c.is_at_cast.ensures.stands.0 c.if-not-is_at_cast.false) c.place-at.ensures c.if-room-eq0.true) (some_cast _ (c.is_at_cast.ensures.stands.0 c.if-not-is_at_cast.false))
@@ -290,9 +281,6 @@ cast_expression-returns-then-not-take-clause-parses t c = wrong_here (ends_at c.
 
 pub cast_expression-returns-in_err-operand-clause-parses : goal.cast_expression-returns-in_err-operand-clause-parses
 cast_expression-returns-in_err-operand-clause-parses t c = let w = err_from_is_err_and c.from_residual-in_err-operand.result c.from_residual-in_err-operand.ensures.1 in rw (w.1, w.2) (raised_in (omega (arith, c.if-room-eq0.false)) c.in_node-2.ensures.nodes c.in_node-2.ensures.pairs c.in_err-operand.ensures.parses (cast_operand_fails (c.is_at_cast.ensures.stands.0 c.if-not-is_at_cast.false) c.skip.ensures.skips c.in_ok-target.ensures.parses c.if-not-take.ensures.1 c.if-not-take.ensures.2) (λ at y o. cast_part_opens _ (c.is_at_cast.ensures.stands.0 c.if-not-is_at_cast.false) c.skip.ensures.skips (paired_type c.in_node.ensures.pairs c.in_ok-target.ensures.parses.0, c.in_ok-target.ensures.parses.1) c.if-not-take.ensures.1 c.if-not-take.ensures.2 o))
-
-pub cast_expression-returns-in_err-whole-clause-parses : goal.cast_expression-returns-in_err-whole-clause-parses
-cast_expression-returns-in_err-whole-clause-parses t c = let w = err_from_is_err_and c.from_residual-in_err-whole.result c.from_residual-in_err-whole.ensures.1 in rw (w.1, w.2) no_memory
 
 pub unary_expression-returns-in_default-clause-parses : goal.unary_expression-returns-in_default-clause-parses
 unary_expression-returns-in_default-clause-parses t c = tree_raised c.postfix_expression.result c.postfix_expression.ensures.parses (λ e s. no_prefixed s) (bare_unary c.in_default.ensures.stands) (λ at y o. unary_opens o)
@@ -309,29 +297,20 @@ unary_expression-returns-clause-shorter t c = shorter_after _ c.prefixed.result 
 pub prefixed-returns-in-Sizeof-clause-parses : goal.prefixed-returns-in-Sizeof-clause-parses
 prefixed-returns-in-Sizeof-clause-parses t c = λ s p h e. sizeof_ends _ s _ c.sizeof_expression.result p (prefix_is s c.in-Sizeof.is h) e c.sizeof_expression.ensures.parses
 
-pub prefixed-returns-in_ok-whole-in-Step-clause-parses : goal.prefixed-returns-in_ok-whole-in-Step-clause-parses
-prefixed-returns-in_ok-whole-in-Step-clause-parses t c = λ s p h e. step_made c.in-Step.step c.in_node.ensures.pairs p (prefix_is s c.in-Step.is h) e c.in_ok-operand-in-Step.ensures.parses c.in_ok-whole-in-Step.ensures.makes
+pub prefixed-returns-in_ok-operand-in-Step-clause-parses : goal.prefixed-returns-in_ok-operand-in-Step-clause-parses
+prefixed-returns-in_ok-operand-in-Step-clause-parses t c = λ s p h e. tree_made c.args.room c.step_node.result c.step_node.ensures.makes (λ w v. step_made c.in-Step.step c.in_node.ensures.pairs p (prefix_is s c.in-Step.is h) e c.in_ok-operand-in-Step.ensures.parses v)
 
 pub prefixed-returns-in_err-operand-in-Step-clause-parses : goal.prefixed-returns-in_err-operand-in-Step-clause-parses
 prefixed-returns-in_err-operand-in-Step-clause-parses t c = λ s p h e. let w = err_from_is_err_and c.from_residual.result c.from_residual.ensures.1 in rw (w.1, w.2) (raised_in c.requires c.in_node.ensures.nodes c.in_node.ensures.pairs c.in_err-operand-in-Step.ensures.parses (step_operand_fails c.in-Step.step (prefix_is s c.in-Step.is h) e) (λ at y o. step_operand_opens c.in-Step.step (prefix_is s c.in-Step.is h) e o))
 
-pub prefixed-returns-in_err-whole-in-Step-clause-parses : goal.prefixed-returns-in_err-whole-in-Step-clause-parses
-prefixed-returns-in_err-whole-in-Step-clause-parses t c = λ s p h e. let w = err_from_is_err_and c.from_residual-in_err-whole-in-Step.result c.from_residual-in_err-whole-in-Step.ensures.1 in rw (w.1, w.2) no_memory
-
-pub prefixed-returns-in_ok-whole-in-Operator-clause-parses : goal.prefixed-returns-in_ok-whole-in-Operator-clause-parses
-prefixed-returns-in_ok-whole-in-Operator-clause-parses t c = λ s p h e. unary_made c.in_node-in-Operator.ensures.pairs p (prefix_is s c.in-Operator.is h) e c.in_ok-operand-in-Operator.ensures.parses c.in_ok-whole-in-Operator.ensures.makes
+pub prefixed-returns-in_ok-operand-in-Operator-clause-parses : goal.prefixed-returns-in_ok-operand-in-Operator-clause-parses
+prefixed-returns-in_ok-operand-in-Operator-clause-parses t c = λ s p h e. tree_made c.args.room c.unary_node.result c.unary_node.ensures.makes (λ w v. unary_made c.in_node-in-Operator.ensures.pairs p (prefix_is s c.in-Operator.is h) e c.in_ok-operand-in-Operator.ensures.parses v)
 
 pub prefixed-returns-in_err-operand-in-Operator-clause-parses : goal.prefixed-returns-in_err-operand-in-Operator-clause-parses
 prefixed-returns-in_err-operand-in-Operator-clause-parses t c = λ s p h e. let w = err_from_is_err_and c.from_residual-in_err-operand-in-Operator.result c.from_residual-in_err-operand-in-Operator.ensures.1 in rw (w.1, w.2) (raised_in c.requires c.in_node-in-Operator.ensures.nodes c.in_node-in-Operator.ensures.pairs c.in_err-operand-in-Operator.ensures.parses (operand_fails (prefix_is s c.in-Operator.is h) e) (λ at y o. unary_operand_opens (prefix_is s c.in-Operator.is h) e o))
 
-pub prefixed-returns-in_err-whole-in-Operator-clause-parses : goal.prefixed-returns-in_err-whole-in-Operator-clause-parses
-prefixed-returns-in_err-whole-in-Operator-clause-parses t c = λ s p h e. let w = err_from_is_err_and c.from_residual-in_err-whole-in-Operator.result c.from_residual-in_err-whole-in-Operator.ensures.1 in rw (w.1, w.2) no_memory
-
 pub sizeof_expression-returns-in_err-inside-clause-parses : goal.sizeof_expression-returns-in_err-inside-clause-parses
 sizeof_expression-returns-in_err-inside-clause-parses t c = λ t h p. let w = err_from_is_err_and c.from_residual.result c.from_residual.ensures.1 in rw (w.1, w.2) (raised_in c.requires c.in_node.ensures.nodes c.in_node.ensures.pairs c.in_err-inside.ensures.parses (sizeof_operand_fails h (not_there c.is_at_cast.result c.if-not-is_at_cast.true c.is_at_cast.ensures.stands)) (λ at y o. sizeof_operand_opens h o))
-
-pub sizeof_expression-returns-in_err-whole-clause-parses : goal.sizeof_expression-returns-in_err-whole-clause-parses
-sizeof_expression-returns-in_err-whole-clause-parses t c = λ t h p. let w = err_from_is_err_and c.from_residual-in_err-whole.result c.from_residual-in_err-whole.ensures.1 in rw (w.1, w.2) no_memory
 
 pub sizeof_expression-returns-in_err-target-clause-parses : goal.sizeof_expression-returns-in_err-target-clause-parses
 sizeof_expression-returns-in_err-target-clause-parses t c = λ t h p. let w = err_from_is_err_and c.from_residual-in_err-target.result c.from_residual-in_err-target.ensures.1 in rw (w.1, w.2) (raised_in c.requires c.in_node-2.ensures.nodes c.in_node-2.ensures.pairs c.in_err-target.ensures.parses (sizeof_type_name_fails h (c.is_at_cast.ensures.stands.0 c.if-not-is_at_cast.false) c.skip.ensures.skips) (λ at y o. sizeof_name_opens _ h (c.is_at_cast.ensures.stands.0 c.if-not-is_at_cast.false) c.skip.ensures.skips o))
@@ -341,9 +320,6 @@ sizeof_expression-returns-then-not-take-clause-parses t c = λ t h p. wrong_here
 
 pub sizeof_expression-returns-then-is_at_suffix-clause-parses : goal.sizeof_expression-returns-then-is_at_suffix-clause-parses
 sizeof_expression-returns-then-is_at_suffix-clause-parses t c = λ t h p. wrong_here (sizeof_suffixed h (c.is_at_cast.ensures.stands.0 c.if-not-is_at_cast.false) c.skip.ensures.skips c.in_ok-target.ensures.parses c.if-not-take.ensures.1 c.if-not-take.ensures.2 (c.is_at_suffix.ensures.0 c.if-is_at_suffix.true) any)
-
-pub sizeof_expression-returns-in_err-whole-2-clause-parses : goal.sizeof_expression-returns-in_err-whole-2-clause-parses
-sizeof_expression-returns-in_err-whole-2-clause-parses t c = λ t h p. let w = err_from_is_err_and c.from_residual-in_err-whole-2.result c.from_residual-in_err-whole-2.ensures.1 in rw (w.1, w.2) no_memory
 
 pub postfix_expression-returns-in_err-left-clause-parses : goal.postfix_expression-returns-in_err-left-clause-parses
 postfix_expression-returns-in_err-left-clause-parses t c = let w = err_from_is_err_and c.from_residual.result c.from_residual.ensures.1 in rw (w.1, w.2) (raised c.in_err-left.ensures.parses (λ b r f. bare_postfix b r f) (λ at y o. postfix_opens o))
@@ -363,32 +339,14 @@ suffixed-returns-in_err-inside-in-Index-clause-parses t c = λ t h. let w = err_
 pub suffixed-returns-then-not-take-clause-parses : goal.suffixed-returns-then-not-take-clause-parses
 suffixed-returns-then-not-take-clause-parses t c = λ t h. wrong_here (ends_at c.if-not-take.ensures.1 (index_unclosed (suffix_is t c.in-Index.is h) c.in_ok-inside-in-Index.ensures.parses c.if-not-take.ensures.0 any))
 
-pub suffixed-returns-in_err-whole-in-Index-clause-parses : goal.suffixed-returns-in_err-whole-in-Index-clause-parses
-suffixed-returns-in_err-whole-in-Index-clause-parses t c = λ t h. let w = err_from_is_err_and c.from_residual-in_err-whole-in-Index.result c.from_residual-in_err-whole-in-Index.ensures.1 in rw (w.1, w.2) no_memory
-
 pub suffixed-returns-in_err-list-in-Call-clause-parses : goal.suffixed-returns-in_err-list-in-Call-clause-parses
 suffixed-returns-in_err-list-in-Call-clause-parses t c = λ t h. let w = err_from_is_err_and c.from_residual-in_err-list-in-Call.result c.from_residual-in_err-list-in-Call.ensures.1 in rw (w.1, w.2) (raised_in (omega (arith, c.requires)) c.in_node-in-Call.ensures.nodes c.in_node-in-Call.ensures.pairs c.in_err-list-in-Call.ensures.parses (arguments_lead (suffix_is t c.in-Call.is h)) (λ at y o. arguments_open (suffix_is t c.in-Call.is h) o))
-
-pub suffixed-returns-in_err-whole-in-Call-clause-parses : goal.suffixed-returns-in_err-whole-in-Call-clause-parses
-suffixed-returns-in_err-whole-in-Call-clause-parses t c = λ t h. let w = err_from_is_err_and c.from_residual-in_err-whole-in-Call.result c.from_residual-in_err-whole-in-Call.ensures.1 in rw (w.1, w.2) no_memory
 
 pub suffixed-returns-in_err-name-in-Dot-clause-parses : goal.suffixed-returns-in_err-name-in-Dot-clause-parses
 suffixed-returns-in_err-name-in-Dot-clause-parses t c = λ t h. let w = err_from_is_err_and c.from_residual-in_err-name-in-Dot.result c.from_residual-in_err-name-in-Dot.ensures.1 in rw (w.1, w.2) (raised_flat c.in_err-name-in-Dot.ensures.stops (member_fails dot (suffix_is t c.in-Dot.is h)))
 
-pub suffixed-returns-in_err-whole-in-Dot-clause-parses : goal.suffixed-returns-in_err-whole-in-Dot-clause-parses
-suffixed-returns-in_err-whole-in-Dot-clause-parses t c = λ t h. let w = err_from_is_err_and c.from_residual-in_err-whole-in-Dot.result c.from_residual-in_err-whole-in-Dot.ensures.1 in rw (w.1, w.2) no_memory
-
 pub suffixed-returns-in_err-name-in-Arrow-clause-parses : goal.suffixed-returns-in_err-name-in-Arrow-clause-parses
 suffixed-returns-in_err-name-in-Arrow-clause-parses t c = λ t h. let w = err_from_is_err_and c.from_residual-in_err-name-in-Arrow.result c.from_residual-in_err-name-in-Arrow.ensures.1 in rw (w.1, w.2) (raised_flat c.in_err-name-in-Arrow.ensures.stops (member_fails arrow (suffix_is t c.in-Arrow.is h)))
-
-pub suffixed-returns-in_err-whole-in-Arrow-clause-parses : goal.suffixed-returns-in_err-whole-in-Arrow-clause-parses
-suffixed-returns-in_err-whole-in-Arrow-clause-parses t c = λ t h. let w = err_from_is_err_and c.from_residual-in_err-whole-in-Arrow.result c.from_residual-in_err-whole-in-Arrow.ensures.1 in rw (w.1, w.2) no_memory
-
-pub suffixed-returns-in_err-whole-in-Increment-clause-parses : goal.suffixed-returns-in_err-whole-in-Increment-clause-parses
-suffixed-returns-in_err-whole-in-Increment-clause-parses t c = λ t h. let w = err_from_is_err_and c.from_residual-in_err-whole-in-Increment.result c.from_residual-in_err-whole-in-Increment.ensures.1 in rw (w.1, w.2) no_memory
-
-pub suffixed-returns-in_err-whole-in-Decrement-clause-parses : goal.suffixed-returns-in_err-whole-in-Decrement-clause-parses
-suffixed-returns-in_err-whole-in-Decrement-clause-parses t c = λ t h. let w = err_from_is_err_and c.from_residual-in_err-whole-in-Decrement.result c.from_residual-in_err-whole-in-Decrement.ensures.1 in rw (w.1, w.2) no_memory
 
 pub arguments-returns-in_err-first-clause-parses : goal.arguments-returns-in_err-first-clause-parses
 arguments-returns-in_err-first-clause-parses t c = let w = err_from_is_err_and c.from_residual.result c.from_residual.ensures.1 in rw (w.1, w.2) (raised c.in_err-first.ensures.parses (first_argument_fails c.if-take.ensures.0 c.if-take.ensures.1) (λ at y o. first_argument_opens c.if-take.ensures.1 o))
@@ -444,9 +402,6 @@ declared-returns-then-room-eq0-clause-parses t c = deep_at _ (pointer_deep c.arg
 pub declared-returns-in_err-inner-clause-parses : goal.declared-returns-in_err-inner-clause-parses
 declared-returns-in_err-inner-clause-parses t c = let w = err_from_is_err_and c.from_residual-in_err-inner.result c.from_residual-in_err-inner.ensures.1 in rw (w.1, w.2) (raised_in (omega (arith, c.if-room-eq0.false)) c.in_node.ensures.nodes c.in_node.ensures.pairs c.in_err-inner.ensures.parses (pointer_inner_fails c.args.form (c.is_at.ensures.stands.0 c.if-not-is_at.false) c.skip.ensures.skips c.consts.ensures.took (not_at_word c.consts.ensures.ends)) (λ at y o. pointer_inner_opens c.args.form _ (c.is_at.ensures.stands.0 c.if-not-is_at.false) c.skip.ensures.skips c.consts.ensures.took o))
 
-pub declared-returns-in_err-whole-clause-parses : goal.declared-returns-in_err-whole-clause-parses
-declared-returns-in_err-whole-clause-parses t c = let w = err_from_is_err_and c.from_residual-in_err-whole.result c.from_residual-in_err-whole.ensures.1 in rw (w.1, w.2) no_memory
-
 pub core-returns-then-eq-clause-parses : goal.core-returns-then-eq-clause-parses
 core-returns-then-eq-clause-parses t c = λ ns. wrong_here (name_wrong c.args.form (same_true the_type (search rules) _ _ (sym c.if-eq.ensures)) (c.is_at_name.ensures.0 c.if-is_at_name.true) any)
 
@@ -455,9 +410,6 @@ core-returns-then-room-eq0-clause-parses t c = λ ns. deep_at _ (name_deep c.arg
 
 pub core-returns-in_err-name-clause-parses : goal.core-returns-in_err-name-clause-parses
 core-returns-in_err-name-clause-parses t c = λ ns. let w = err_from_is_err_and c.from_residual.result c.from_residual.ensures.1 in rw (w.1, w.2) (raised_flat c.in_err-name.ensures.stops (λ b r f. absurd (name_stands (c.is_at_name.ensures.0 c.if-is_at_name.true) f)))
-
-pub core-returns-in_err-whole-clause-parses : goal.core-returns-in_err-whole-clause-parses
-core-returns-in_err-whole-clause-parses t c = λ ns. let w = err_from_is_err_and c.from_residual-in_err-whole.result c.from_residual-in_err-whole.ensures.1 in rw (w.1, w.2) no_memory
 
 pub core-returns-then-eq-2-clause-parses : goal.core-returns-then-eq-2-clause-parses
 core-returns-then-eq-2-clause-parses t c = λ ns. wrong_here (no_name_wrong c.args.form (same_true the_type (search rules) _ _ (sym c.if-eq-2.ensures)) ns (no_opening c.args.form c.if-not-opens.ensures.stands (same_true the_type (search rules) _ _ (sym c.if-eq-2.ensures))) (not_there c.is_at_name.result c.if-is_at_name.false c.is_at_name.ensures) any)
@@ -489,9 +441,6 @@ part-returns-in_err-size-clause-parses t c = let w = err_from_is_err_and c.from_
 pub part-returns-then-not-take-clause-parses : goal.part-returns-then-not-take-clause-parses
 part-returns-then-not-take-clause-parses t c = λ l. wrong_here (past_at c.if-not-take.ensures.1 (size_part_fails c.if-take.ensures.2 c.if-take.ensures.1 any _ (c.in_ok-size.ensures.parses.1 c.if-not-take.ensures.0 any)))
 
-pub part-returns-in_err-whole-clause-parses : goal.part-returns-in_err-whole-clause-parses
-part-returns-in_err-whole-clause-parses t c = let w = err_from_is_err_and c.from_residual-in_err-whole.result c.from_residual-in_err-whole.ensures.1 in rw (w.1, w.2) (λ l. no_memory)
-
 pub part-returns-then-not-take-2-clause-parses : goal.part-returns-then-not-take-2-clause-parses
 part-returns-then-not-take-2-clause-parses t c = λ l. wrong_here (past_at (c.if-not-take-2.ensures.1 ∙ c.if-take.ensures.1) (neither l c.if-take.ensures.0 (λ h. c.if-not-take-2.ensures.0 (at_from LEFT_PARENTHESIS c.if-take.ensures.1 h)) any))
 
@@ -500,9 +449,6 @@ part-returns-in_err-list-clause-parses t c = let w = err_from_is_err_and c.from_
 
 pub part-returns-then-not-take-3-clause-parses : goal.part-returns-then-not-take-3-clause-parses
 part-returns-then-not-take-3-clause-parses t c = λ l. wrong_here (past_at c.if-not-take-3.ensures.1 (params_part_fails (sym c.if-take.ensures.1 ∙ c.if-not-take-2.ensures.2) c.if-not-take-2.ensures.1 any _ (params_not_closed c.in_ok-list.ensures.parses.1 c.if-not-take-3.ensures.0 any)))
-
-pub part-returns-in_err-whole-2-clause-parses : goal.part-returns-in_err-whole-2-clause-parses
-part-returns-in_err-whole-2-clause-parses t c = let w = err_from_is_err_and c.from_residual-in_err-whole-2.result c.from_residual-in_err-whole-2.ensures.1 in rw (w.1, w.2) (λ l. no_memory)
 
 pub size-returns-in_err-size-clause-parses : goal.size-returns-in_err-size-clause-parses
 size-returns-in_err-size-clause-parses t c = let w = err_from_is_err_and c.from_residual.result c.from_residual.ensures.1 in rw (w.1, w.2) (raised c.in_err-size.ensures.parses (size_expression_fails (not_there c.is_at.result c.if-is_at.false c.is_at.ensures.stands)) (λ at y o. o))
@@ -520,7 +466,7 @@ pub parameters-returns-in_err-push-2-clause-parses : goal.parameters-returns-in_
 parameters-returns-in_err-push-2-clause-parses t c = let w = err_from_is_err_and c.from_residual-in_err-push-2.result c.from_residual-in_err-push-2.ensures.1 in rw (w.1, w.2) no_memory
 
 pub comma_expression-returns-clause-deep : goal.comma_expression-returns-clause-deep
-comma_expression-returns-clause-deep t c = c.in_ok-whole.ensures.deep (c.in_ok-list.ensures.deep c.in_ok-first.ensures.deep)
+comma_expression-returns-clause-deep t c = c.comma_node.ensures.deep (c.in_ok-list.ensures.deep c.in_ok-first.ensures.deep)
 
 pub expressions_from-returns-clause-deep : goal.expressions_from-returns-clause-deep
 expressions_from-returns-clause-deep t c = λ d. c.loop-alloc.invariant.deep d
@@ -529,7 +475,7 @@ pub assignment_expression-returns-in_default-clause-deep : goal.assignment_expre
 assignment_expression-returns-in_default-clause-deep t c = c.in_ok-whole.ensures.deep c.in_ok-operand.ensures.deep
 
 pub assignment_expression-returns-clause-deep : goal.assignment_expression-returns-clause-deep
-assignment_expression-returns-clause-deep t c = c.in_ok-whole-2.ensures.deep c.in_ok-operand.ensures.deep c.in_ok-value.ensures.deep
+assignment_expression-returns-clause-deep t c = c.assign_node.ensures.deep c.in_ok-operand.ensures.deep c.in_ok-value.ensures.deep
 
 pub conditional_expression-returns-clause-deep : goal.conditional_expression-returns-clause-deep
 conditional_expression-returns-clause-deep t c = c.conditional_from.ensures.deep c.in_ok-operand.ensures.deep
@@ -538,43 +484,43 @@ pub conditional_from-returns-then-not-is_at-clause-deep : goal.conditional_from-
 conditional_from-returns-then-not-is_at-clause-deep t c = λ d. c.in_ok-test.ensures.deep d
 
 pub conditional_from-returns-clause-deep : goal.conditional_from-returns-clause-deep
-conditional_from-returns-clause-deep t c = λ d. c.in_ok-whole.ensures.deep (c.in_ok-test.ensures.deep d) c.in_ok-yes.ensures.deep c.in_ok-no.ensures.deep
+conditional_from-returns-clause-deep t c = λ d. c.conditional_node.ensures.deep (c.in_ok-test.ensures.deep d) c.in_ok-yes.ensures.deep c.in_ok-no.ensures.deep
 
 pub binary_from-returns-clause-deep : goal.binary_from-returns-clause-deep
 binary_from-returns-clause-deep t c = λ d. c.loop-operator.invariant.deep d
 
 pub cast_expression-returns-clause-deep : goal.cast_expression-returns-clause-deep
-cast_expression-returns-clause-deep t c = c.in_ok-whole.ensures.deep c.in_ok-target.ensures.deep c.in_ok-operand.ensures.deep
+cast_expression-returns-clause-deep t c = c.cast_node.ensures.deep c.in_ok-target.ensures.deep c.in_ok-operand.ensures.deep
 
-pub prefixed-returns-in_ok-whole-in-Step-clause-deep : goal.prefixed-returns-in_ok-whole-in-Step-clause-deep
-prefixed-returns-in_ok-whole-in-Step-clause-deep t c = c.in_ok-whole-in-Step.ensures.deep c.in_ok-operand-in-Step.ensures.deep
+pub prefixed-returns-in_ok-operand-in-Step-clause-deep : goal.prefixed-returns-in_ok-operand-in-Step-clause-deep
+prefixed-returns-in_ok-operand-in-Step-clause-deep t c = c.step_node.ensures.deep c.in_ok-operand-in-Step.ensures.deep
 
-pub prefixed-returns-in_ok-whole-in-Operator-clause-deep : goal.prefixed-returns-in_ok-whole-in-Operator-clause-deep
-prefixed-returns-in_ok-whole-in-Operator-clause-deep t c = c.in_ok-whole-in-Operator.ensures.deep c.in_ok-operand-in-Operator.ensures.deep
+pub prefixed-returns-in_ok-operand-in-Operator-clause-deep : goal.prefixed-returns-in_ok-operand-in-Operator-clause-deep
+prefixed-returns-in_ok-operand-in-Operator-clause-deep t c = c.unary_node.ensures.deep c.in_ok-operand-in-Operator.ensures.deep
 
 pub sizeof_expression-returns-then-not-is_at_cast-clause-deep : goal.sizeof_expression-returns-then-not-is_at_cast-clause-deep
-sizeof_expression-returns-then-not-is_at_cast-clause-deep t c = c.in_ok-whole.ensures.deep c.in_ok-inside.ensures.deep
+sizeof_expression-returns-then-not-is_at_cast-clause-deep t c = c.sizeof_node.ensures.deep c.in_ok-inside.ensures.deep
 
 pub sizeof_expression-returns-clause-deep : goal.sizeof_expression-returns-clause-deep
-sizeof_expression-returns-clause-deep t c = c.in_ok-whole-2.ensures.deep c.in_ok-target.ensures.deep
+sizeof_expression-returns-clause-deep t c = c.sizeof_type_node.ensures.deep c.in_ok-target.ensures.deep
 
-pub suffixed-returns-in_ok-whole-in-Index-clause-deep : goal.suffixed-returns-in_ok-whole-in-Index-clause-deep
-suffixed-returns-in_ok-whole-in-Index-clause-deep t c = λ d. c.in_ok-whole-in-Index.ensures.deep d c.in_ok-inside-in-Index.ensures.deep
+pub suffixed-returns-else-not-take-clause-deep : goal.suffixed-returns-else-not-take-clause-deep
+suffixed-returns-else-not-take-clause-deep t c = λ d. c.index_node.ensures.deep d c.in_ok-inside-in-Index.ensures.deep
 
-pub suffixed-returns-in_ok-whole-in-Call-clause-deep : goal.suffixed-returns-in_ok-whole-in-Call-clause-deep
-suffixed-returns-in_ok-whole-in-Call-clause-deep t c = λ d. c.in_ok-whole-in-Call.ensures.deep d c.in_ok-list-in-Call.ensures.deep
+pub suffixed-returns-in_ok-list-in-Call-clause-deep : goal.suffixed-returns-in_ok-list-in-Call-clause-deep
+suffixed-returns-in_ok-list-in-Call-clause-deep t c = λ d. c.call_node.ensures.deep d c.in_ok-list-in-Call.ensures.deep
 
-pub suffixed-returns-in_ok-whole-in-Dot-clause-deep : goal.suffixed-returns-in_ok-whole-in-Dot-clause-deep
-suffixed-returns-in_ok-whole-in-Dot-clause-deep t c = λ d. c.in_ok-whole-in-Dot.ensures.deep d
+pub suffixed-returns-in_ok-name-in-Dot-clause-deep : goal.suffixed-returns-in_ok-name-in-Dot-clause-deep
+suffixed-returns-in_ok-name-in-Dot-clause-deep t c = λ d. c.member_node.ensures.deep d
 
-pub suffixed-returns-in_ok-whole-in-Arrow-clause-deep : goal.suffixed-returns-in_ok-whole-in-Arrow-clause-deep
-suffixed-returns-in_ok-whole-in-Arrow-clause-deep t c = λ d. c.in_ok-whole-in-Arrow.ensures.deep d
+pub suffixed-returns-in_ok-name-in-Arrow-clause-deep : goal.suffixed-returns-in_ok-name-in-Arrow-clause-deep
+suffixed-returns-in_ok-name-in-Arrow-clause-deep t c = λ d. c.arrow_node.ensures.deep d
 
-pub suffixed-returns-in_ok-whole-in-Increment-clause-deep : goal.suffixed-returns-in_ok-whole-in-Increment-clause-deep
-suffixed-returns-in_ok-whole-in-Increment-clause-deep t c = λ d. c.in_ok-whole-in-Increment.ensures.deep d
+pub suffixed-returns-in-Increment-clause-deep : goal.suffixed-returns-in-Increment-clause-deep
+suffixed-returns-in-Increment-clause-deep t c = λ d. c.increased_node.ensures.deep d
 
-pub suffixed-returns-in_ok-whole-in-Decrement-clause-deep : goal.suffixed-returns-in_ok-whole-in-Decrement-clause-deep
-suffixed-returns-in_ok-whole-in-Decrement-clause-deep t c = λ d. c.in_ok-whole-in-Decrement.ensures.deep d
+pub suffixed-returns-in-Decrement-clause-deep : goal.suffixed-returns-in-Decrement-clause-deep
+suffixed-returns-in-Decrement-clause-deep t c = λ d. c.decreased_node.ensures.deep d
 
 pub arguments-returns-then-take-clause-deep : goal.arguments-returns-then-take-clause-deep
 arguments-returns-then-take-clause-deep t c = inl c.no_exprs.ensures.height
@@ -589,7 +535,7 @@ pub declared-returns-then-not-is_at-clause-deep : goal.declared-returns-then-not
 declared-returns-then-not-is_at-clause-deep t c = c.lengthened.ensures.deep c.in_ok-core.ensures.deep
 
 pub declared-returns-clause-deep : goal.declared-returns-clause-deep
-declared-returns-clause-deep t c = c.in_ok-whole.ensures.deep c.in_ok-inner.ensures.deep
+declared-returns-clause-deep t c = c.pointer_node.ensures.deep c.in_ok-inner.ensures.deep
 
 pub core-returns-then-not-opens-clause-deep : goal.core-returns-then-not-opens-clause-deep
 core-returns-then-not-opens-clause-deep t c = inl c.no_declarator.ensures.height
@@ -598,10 +544,10 @@ pub lengthened-returns-clause-deep : goal.lengthened-returns-clause-deep
 lengthened-returns-clause-deep t c = λ d. c.loop-alloc.invariant.deep d
 
 pub part-returns-then-take-clause-deep : goal.part-returns-then-take-clause-deep
-part-returns-then-take-clause-deep t c = λ d. c.in_ok-whole.ensures.deep d c.in_ok-size.ensures.deep
+part-returns-then-take-clause-deep t c = λ d. c.array_node.ensures.deep d c.in_ok-size.ensures.deep
 
 pub part-returns-clause-deep : goal.part-returns-clause-deep
-part-returns-clause-deep t c = λ d. c.in_ok-whole-2.ensures.deep d c.in_ok-list.ensures.deep
+part-returns-clause-deep t c = λ d. c.function_node.ensures.deep d c.in_ok-list.ensures.deep
 
 pub size-returns-then-is_at-clause-deep : goal.size-returns-then-is_at-clause-deep
 size-returns-then-is_at-clause-deep t c = inl c.no_size.ensures.height
@@ -617,3 +563,114 @@ parameters-returns-clause-deep t c = c.loop-alloc.invariant.deep
 
 pub parameter-returns-clause-deep : goal.parameter-returns-clause-deep
 parameter-returns-clause-deep t c = λ rest. param_deep_at c.param_node.ensures.depth (c.param_node.ensures.makes rest) c.in_ok-inner.ensures.deep
+
+pub comma_expression-returns-clause-shorter : goal.comma_expression-returns-clause-shorter
+comma_expression-returns-clause-shorter t c = when_read c.comma_node.result (omega (arith, c.in_ok-first.ensures.shorter, c.in_ok-list.ensures.shorter))
+
+pub comma_expression-returns-clause-fits : goal.comma_expression-returns-clause-fits
+comma_expression-returns-clause-fits t c = IfOk-weaker c.comma_node.result _ _ (λ m e. omega (arith, e, c.if-room-first.false, c.in_node.ensures.nodes, c.in_ok-list.ensures.fits)) c.comma_node.ensures.height
+
+pub assignment_expression-returns-clause-shorter : goal.assignment_expression-returns-clause-shorter
+assignment_expression-returns-clause-shorter t c = when_read c.assign_node.result (omega (arith, c.in_ok-operand.ensures.shorter, c.skip.ensures.shorter, c.in_ok-value.ensures.shorter))
+
+pub assignment_expression-returns-clause-fits : goal.assignment_expression-returns-clause-fits
+assignment_expression-returns-clause-fits t c = IfOk-weaker c.assign_node.result _ _ (λ m e. omega (arith, e, c.if-room-operand.false, c.in_node.ensures.nodes, c.in_ok-value.ensures.fits)) c.assign_node.ensures.height
+
+pub conditional_from-returns-clause-shorter : goal.conditional_from-returns-clause-shorter
+conditional_from-returns-clause-shorter t c = when_read c.conditional_node.result (omega (arith, c.in_ok-test.ensures.shorter, c.skip.ensures.shorter, c.in_ok-yes.ensures.shorter, ap length c.if-not-take.ensures.2, c.in_ok-no.ensures.shorter))
+
+pub conditional_from-returns-clause-fits : goal.conditional_from-returns-clause-fits
+conditional_from-returns-clause-fits t c = IfOk-weaker c.conditional_node.result _ _ (λ m e. omega (arith, e, c.if-room-test.false, c.in_node.ensures.nodes, c.in_node-2.ensures.nodes, c.in_ok-yes.ensures.fits, c.in_ok-no.ensures.fits)) c.conditional_node.ensures.height
+
+pub cast_expression-returns-clause-shorter : goal.cast_expression-returns-clause-shorter
+cast_expression-returns-clause-shorter t c = when_read c.cast_node.result (omega (arith, c.skip.ensures.shorter, c.in_ok-target.ensures.shorter, ap length c.if-not-take.ensures.2, c.in_ok-operand.ensures.shorter))
+
+pub cast_expression-returns-clause-fits : goal.cast_expression-returns-clause-fits
+cast_expression-returns-clause-fits t c = IfOk-weaker c.cast_node.result _ _ (λ m e. omega (arith, e, c.if-room-eq0.false, c.in_node.ensures.nodes, c.in_node-2.ensures.nodes, c.in_ok-target.ensures.fits, c.in_ok-operand.ensures.fits)) c.cast_node.ensures.height
+
+pub prefixed-returns-in_ok-operand-in-Step-clause-shorter : goal.prefixed-returns-in_ok-operand-in-Step-clause-shorter
+prefixed-returns-in_ok-operand-in-Step-clause-shorter t c = when_read c.step_node.result c.in_ok-operand-in-Step.ensures.shorter
+
+pub prefixed-returns-in_ok-operand-in-Step-clause-fits : goal.prefixed-returns-in_ok-operand-in-Step-clause-fits
+prefixed-returns-in_ok-operand-in-Step-clause-fits t c = IfOk-weaker c.step_node.result _ _ (λ m e. omega (arith, e, c.requires, c.in_node.ensures.nodes, c.in_ok-operand-in-Step.ensures.fits)) c.step_node.ensures.height
+
+pub prefixed-returns-in_ok-operand-in-Operator-clause-shorter : goal.prefixed-returns-in_ok-operand-in-Operator-clause-shorter
+prefixed-returns-in_ok-operand-in-Operator-clause-shorter t c = when_read c.unary_node.result c.in_ok-operand-in-Operator.ensures.shorter
+
+pub prefixed-returns-in_ok-operand-in-Operator-clause-fits : goal.prefixed-returns-in_ok-operand-in-Operator-clause-fits
+prefixed-returns-in_ok-operand-in-Operator-clause-fits t c = IfOk-weaker c.unary_node.result _ _ (λ m e. omega (arith, e, c.requires, c.in_node-in-Operator.ensures.nodes, c.in_ok-operand-in-Operator.ensures.fits)) c.unary_node.ensures.height
+
+pub sizeof_expression-returns-then-not-is_at_cast-clause-shorter : goal.sizeof_expression-returns-then-not-is_at_cast-clause-shorter
+sizeof_expression-returns-then-not-is_at_cast-clause-shorter t c = when_read c.sizeof_node.result c.in_ok-inside.ensures.shorter
+
+pub sizeof_expression-returns-then-not-is_at_cast-clause-fits : goal.sizeof_expression-returns-then-not-is_at_cast-clause-fits
+sizeof_expression-returns-then-not-is_at_cast-clause-fits t c = IfOk-weaker c.sizeof_node.result _ _ (λ m e. omega (arith, e, c.requires, c.in_node.ensures.nodes, c.in_ok-inside.ensures.fits)) c.sizeof_node.ensures.height
+
+pub sizeof_expression-returns-clause-shorter : goal.sizeof_expression-returns-clause-shorter
+sizeof_expression-returns-clause-shorter t c = when_read c.sizeof_type_node.result (omega (arith, c.skip.ensures.shorter, c.in_ok-target.ensures.shorter, ap length c.if-not-take.ensures.2))
+
+pub sizeof_expression-returns-clause-fits : goal.sizeof_expression-returns-clause-fits
+sizeof_expression-returns-clause-fits t c = IfOk-weaker c.sizeof_type_node.result _ _ (λ m e. omega (arith, e, c.requires, c.in_node-2.ensures.nodes, c.in_ok-target.ensures.fits)) c.sizeof_type_node.ensures.height
+
+pub suffixed-returns-else-not-take-clause-shorter : goal.suffixed-returns-else-not-take-clause-shorter
+suffixed-returns-else-not-take-clause-shorter t c = when_read c.index_node.result (omega (arith, c.in_ok-inside-in-Index.ensures.shorter, ap length c.if-not-take.ensures.2))
+
+pub suffixed-returns-else-not-take-clause-fits : goal.suffixed-returns-else-not-take-clause-fits
+suffixed-returns-else-not-take-clause-fits t c = IfOk-weaker c.index_node.result _ _ (λ m e. omega (arith, e, c.requires, c.in_node.ensures.nodes, c.in_ok-inside-in-Index.ensures.fits)) c.index_node.ensures.height
+
+pub suffixed-returns-in_ok-list-in-Call-clause-parses : goal.suffixed-returns-in_ok-list-in-Call-clause-parses
+suffixed-returns-in_ok-list-in-Call-clause-parses t c = λ t h. suffix_made c.args.room c.call_node.result c.call_node.ensures.makes (λ w v e k s. call_adds c.in_node-in-Call.ensures.pairs v (c.in_ok-list-in-Call.ensures.parses _ _ e k t (suffix_is t c.in-Call.is h)) s)
+
+pub suffixed-returns-in_ok-list-in-Call-clause-shorter : goal.suffixed-returns-in_ok-list-in-Call-clause-shorter
+suffixed-returns-in_ok-list-in-Call-clause-shorter t c = when_read c.call_node.result (omega (arith, c.in_ok-list-in-Call.ensures.shorter))
+
+pub suffixed-returns-in_ok-list-in-Call-clause-fits : goal.suffixed-returns-in_ok-list-in-Call-clause-fits
+suffixed-returns-in_ok-list-in-Call-clause-fits t c = IfOk-weaker c.call_node.result _ _ (λ m e. omega (arith, e, c.requires, c.in_node-in-Call.ensures.nodes, c.in_ok-list-in-Call.ensures.fits)) c.call_node.ensures.height
+
+pub suffixed-returns-in_ok-name-in-Dot-clause-shorter : goal.suffixed-returns-in_ok-name-in-Dot-clause-shorter
+suffixed-returns-in_ok-name-in-Dot-clause-shorter t c = when_read c.member_node.result (omega (arith, c.in_ok-name-in-Dot.ensures.shorter))
+
+pub suffixed-returns-in_ok-name-in-Dot-clause-fits : goal.suffixed-returns-in_ok-name-in-Dot-clause-fits
+suffixed-returns-in_ok-name-in-Dot-clause-fits t c = IfOk-weaker c.member_node.result _ _ (λ m e. omega (arith, e, c.requires)) c.member_node.ensures.height
+
+pub suffixed-returns-in_ok-name-in-Arrow-clause-shorter : goal.suffixed-returns-in_ok-name-in-Arrow-clause-shorter
+suffixed-returns-in_ok-name-in-Arrow-clause-shorter t c = when_read c.arrow_node.result (omega (arith, c.in_ok-name-in-Arrow.ensures.shorter))
+
+pub suffixed-returns-in_ok-name-in-Arrow-clause-fits : goal.suffixed-returns-in_ok-name-in-Arrow-clause-fits
+suffixed-returns-in_ok-name-in-Arrow-clause-fits t c = IfOk-weaker c.arrow_node.result _ _ (λ m e. omega (arith, e, c.requires)) c.arrow_node.ensures.height
+
+pub suffixed-returns-in-Increment-clause-shorter : goal.suffixed-returns-in-Increment-clause-shorter
+suffixed-returns-in-Increment-clause-shorter t c = when_read c.increased_node.result (omega arith)
+
+pub suffixed-returns-in-Increment-clause-fits : goal.suffixed-returns-in-Increment-clause-fits
+suffixed-returns-in-Increment-clause-fits t c = IfOk-weaker c.increased_node.result _ _ (λ m e. omega (arith, e, c.requires)) c.increased_node.ensures.height
+
+pub suffixed-returns-in-Decrement-clause-shorter : goal.suffixed-returns-in-Decrement-clause-shorter
+suffixed-returns-in-Decrement-clause-shorter t c = when_read c.decreased_node.result (omega arith)
+
+pub suffixed-returns-in-Decrement-clause-fits : goal.suffixed-returns-in-Decrement-clause-fits
+suffixed-returns-in-Decrement-clause-fits t c = IfOk-weaker c.decreased_node.result _ _ (λ m e. omega (arith, e, c.requires)) c.decreased_node.ensures.height
+
+pub declared-returns-clause-shorter : goal.declared-returns-clause-shorter
+declared-returns-clause-shorter t c = when_read c.pointer_node.result (omega (arith, c.skip.ensures.shorter, c.consts.ensures.shorter, c.in_ok-inner.ensures.shorter))
+
+pub declared-returns-clause-fits : goal.declared-returns-clause-fits
+declared-returns-clause-fits t c = IfOk-weaker c.pointer_node.result _ _ (λ m e. omega (arith, e, c.if-room-eq0.false, c.in_node.ensures.nodes, c.in_ok-inner.ensures.fits)) c.pointer_node.ensures.height
+
+pub core-returns-then-is_at_name-clause-shorter : goal.core-returns-then-is_at_name-clause-shorter
+core-returns-then-is_at_name-clause-shorter t c = when_read c.name_node.result (omega (arith, c.in_ok-name.ensures.shorter))
+
+pub core-returns-then-is_at_name-clause-fits : goal.core-returns-then-is_at_name-clause-fits
+core-returns-then-is_at_name-clause-fits t c = IfOk-weaker c.name_node.result _ _ (λ m e. omega (arith, e, c.if-room-eq0.false)) c.name_node.ensures.height
+
+pub part-returns-then-take-clause-shorter : goal.part-returns-then-take-clause-shorter
+part-returns-then-take-clause-shorter t c = when_read c.array_node.result (omega (arith, ap length c.if-take.ensures.2, c.in_ok-size.ensures.shorter, ap length c.if-not-take.ensures.2))
+
+pub part-returns-then-take-clause-fits : goal.part-returns-then-take-clause-fits
+part-returns-then-take-clause-fits t c = IfOk-weaker c.array_node.result _ _ (λ m e. omega (arith, e, c.requires, c.in_node.ensures.nodes, c.in_ok-size.ensures.fits)) c.array_node.ensures.height
+
+pub part-returns-clause-shorter : goal.part-returns-clause-shorter
+part-returns-clause-shorter t c = when_read c.function_node.result (omega (arith, ap length c.if-take.ensures.1, ap length c.if-not-take-2.ensures.2, c.in_ok-list.ensures.shorter, ap length c.if-not-take-3.ensures.2))
+
+pub part-returns-clause-fits : goal.part-returns-clause-fits
+part-returns-clause-fits t c = IfOk-weaker c.function_node.result _ _ (λ m e. omega (arith, e, c.requires, c.in_node-2.ensures.nodes, c.in_ok-list.ensures.fits)) c.function_node.ensures.height

@@ -3,8 +3,8 @@ use Rattle.dm_base.specs.declared.memory.OutOfMemory.{OutOfMemory}
 use Rattle.c_tree.specs.declared.tree.TExpr.{TExpr}
 use Rattle.c_tree.specs.declared.tree.TExprKind.{TExprKind}
 use Rattle.c_tree.specs.View.{ctype_of, expr_with, expr_of, exprs_of}
-use Rattle.c_meaning_laws.specs.Shape.{Shape, Skip, End}
-use Rattle.c_meaning_laws.specs.ShapeOf.{before_parts, without_skips, in_turn, seq_two, alt}
+use Rattle.c_meaning.specs.Shape.{Shape, Skip, End}
+use Rattle.c_meaning.specs.ShapeOf.{before_parts, without_skips, in_turn, seq_two, alt}
 use Rattle.flow_graph.specs.declared.shape.Shape.{Shape as Tree}
 use Rattle.flow_graph.specs.View.{shape_of, parts_of}
 use Rattle.flow_graph.specs.Joined.{joined}

@@ -1,7 +1,7 @@
 use Rattle.std.proofs.Common.{◌∙◌, ap, ap₂, sym}
 use Rattle.c_tree.specs.View.{expr_of, maybe_of, inits_of, stmt_of, stmts_of, groups_of}
-use Rattle.c_meaning_laws.specs.Shape.{Skip, Loop, Do, Cases}
-use Rattle.c_meaning_laws.specs.ShapeOf.{without_skips, in_turn, seq, seq_two, alt, has_default}
+use Rattle.c_meaning.specs.Shape.{Skip, Loop, Do, Cases}
+use Rattle.c_meaning.specs.ShapeOf.{without_skips, in_turn, seq, seq_two, alt, has_default}
 use Rattle.flow_graph.specs.View.{shape_of, parts_of}
 use Rattle.flow_graph.specs.Sited.{expr_at, maybe_at, inits_at, stmt_at, stmts_at, groups_at}
 use Rattle.flow_graph.proofs.TakenParts.{each, stmt_shape, group_shape, stmts_each, groups_each, part_more, parts_end, shape_more, shapes_end}

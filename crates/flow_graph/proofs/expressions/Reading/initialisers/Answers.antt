@@ -1,6 +1,6 @@
 use Rattle.std.proofs.Common.{◌∙◌, ap}
 use Rattle.c_tree.specs.View.{inits_of}
-use Rattle.c_meaning_laws.specs.ShapeOf.{without_skips, in_turn, seq}
+use Rattle.c_meaning.specs.ShapeOf.{without_skips, in_turn, seq}
 use Rattle.flow_graph.specs.View.{parts_of}
 use Rattle.flow_graph.specs.Sited.{inits_at}
 use Rattle.flow_graph.proofs.TakenParts.{each, init_shape, inits_each, part_more, parts_end}

@@ -1,5 +1,5 @@
 use Rattle.std.proofs.Common.{◌≡◌, drop}
-use Rattle.c_meaning_laws.specs.ShapeOf.{without_skips}
+use Rattle.c_meaning.specs.ShapeOf.{without_skips}
 use Rattle.flow_graph.specs.View.{parts_of}
 use Rattle.flow_graph.specs.Joined.{joined}
 use Rattle.flow_graph.proofs.TakenParts.{each, init_shape}

@@ -1,9 +1,9 @@
 use Rattle.std.proofs.Common.{◌∙◌, None, ap, arith}
 use Rattle.std.specs.Prelude.{slice_index_or}
 use Rattle.c_tree.specs.View.{program_of}
-use Rattle.c_meaning_laws.specs.CallGraph.{callee_at}
+use Rattle.c_meaning.specs.CallGraph.{callee_at}
 use Rattle.null_calls_laws.specs.MarkedCalls.{sites_of}
-use Rattle.call_graph.specs.Saying.{said}
+use Rattle.flow_graph.specs.Saying.{said}
 use Rattle.null_calls_temporaries.specs.Callees.{callee_where}
 use Rattle.null_calls_temporaries.proofs.SiteLemmas.{site_more, all_sited}
 use Rattle.null_calls_temporaries.proofs.marked_sites.MarkedSites.of.Goals as goal

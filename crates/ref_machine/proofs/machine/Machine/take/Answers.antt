@@ -2,7 +2,7 @@ use Rattle.std.proofs.Common.{◌+◌, ◌≤◌, ◌∷◌, refl, subst, arith}
 use Rattle.c_tree.specs.View.{program_of}
 use Rattle.c_values.specs.Seen.{seen}
 use Rattle.c_meaning.specs.Runs.{Run}
-use Rattle.c_meaning_laws.specs.TypedResults.{IsEnding}
+use Rattle.c_meaning.specs.TypedResults.{IsEnding}
 use Rattle.ref_machine_frames.specs.Requests.{asked_by}
 use Rattle.ref_machine_frames.specs.Held.{world}
 use Rattle.ref_machine_frames.specs.Frames.{place_of, stack, after_value}

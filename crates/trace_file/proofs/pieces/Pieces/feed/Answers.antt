@@ -1,4 +1,4 @@
-use Rattle.std.proofs.Common.{◌≤◌, ◌+◌, length, sym, subst, arith}
+use Rattle.std.proofs.Common.{◌≤◌, ◌+◌, ◌++◌, Err, length, sym, ◌∙◌, ap, subst, arith, length-append}
 use Rattle.trace_file.specs.Held.{Held, StandsFor}
 use Rattle.trace_file.specs.Trace.{longest}
 use Rattle.trace_file.specs.declared.error.TraceError.TheVariants.{OutOfMemory}
@@ -41,3 +41,13 @@ returns-in-Err-clause-long g c = λ text items stands long.
     let fits : c.self.inside.size + length c.args.piece.now ≤ longest = omega (arith, c.self.invariant.1, c.if-self-piece.false) in
     let held : Held g.row.P.Denot = record { place = c.self.inside.place; tail = c.self.inside.tail.items; size = c.self.inside.size; refused = c.self.inside.refused } in
     absurd (never_long g.P.Place.reaches held c.args.piece.now text items fits (subst (λ (h : Held g.row.P.Denot). StandsFor g.P.Place.reaches h text items) (sym c.self.view_is) stands) long)
+
+pub returns-in-Err-OutOfMemory-clause-memory : goal.returns-in-Err-OutOfMemory-clause-memory
+returns-in-Err-OutOfMemory-clause-memory g c = λ _.
+    let same = c.take_piece.ensures.memory (c.in-Err-OutOfMemory.is ∙ ap Err c.in-Err-OutOfMemory.field-0-is) in
+    (λ i. record { place = same.0 i; tail = same.1 i; size = c.self.inside.size; refused = c.self.inside.refused }) ∙ c.self.view_is
+
+pub returns-then-self-piece-clause-shown : goal.returns-then-self-piece-clause-shown
+returns-then-self-piece-clause-shown g c = λ text items stands more short.
+    let size = (subst (λ (h : Held g.row.P.Denot). StandsFor g.P.Place.reaches h text items) (sym c.self.view_is) stands).size in
+    absurd (omega (arith, size, length-append text c.args.piece.now, length-append (text ++ c.args.piece.now) more, short, c.if-self-piece.true))

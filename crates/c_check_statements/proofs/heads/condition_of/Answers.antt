@@ -1,0 +1,27 @@
+use Rattle.c_check_declarations.specs.TypedExpressionView.{typed_expression_of}
+use Rattle.c_check_expressions.proofs.Exits.{fails_on, on_ended, on_ok}
+use Rattle.c_check_scopes.specs.View.{before_of, env_of}
+use Rattle.c_check_statements.proofs.heads.condition_of.Goals as goal
+use Rattle.c_rules.specs.Conversions.{condition}
+use Rattle.c_rules.specs.Expressions.{value}
+use Rattle.c_rules.specs.Statements.{condition_at}
+use Rattle.c_syntax.specs.View.{expr_of}
+use Rattle.c_tree.specs.View.{expr_of as tree_seen}
+use Rattle.std.proofs.Common.{refl}
+
+pub returns-in_err-given-clause-judged : goal.returns-in_err-given-clause-judged
+returns-in_err-given-clause-judged c =
+    let given = value (env_of c.args.env.now) (before_of c.args.before.now) (expr_of c.args.e.now) in
+    fails_on tree_seen c.from_residual.result c.in_err-given.field-0.0 (condition_at c.args.at given) given (condition c.args.at) c.from_residual.ensures refl c.in_err-given.ensures.judged
+
+pub returns-clause-judged : goal.returns-clause-judged
+returns-clause-judged c =
+    let given = value (env_of c.args.env.now) (before_of c.args.before.now) (expr_of c.args.e.now) in
+    let g = typed_expression_of c.in_ok-given.given in
+    on_ended tree_seen c.condition.result (condition_at c.args.at given) given given (condition c.args.at) g (condition c.args.at g) refl refl c.in_ok-given.ensures.judged refl c.condition.ensures
+
+pub returns-clause-counted : goal.returns-clause-counted
+returns-clause-counted c = on_ok c.condition.result _ c.in_ok-given.ensures.counted
+
+pub returns-clause-kept : goal.returns-clause-kept
+returns-clause-kept c = on_ok c.condition.result _ c.in_ok-given.ensures.kept

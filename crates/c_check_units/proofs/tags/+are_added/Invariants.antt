@@ -1,5 +1,0 @@
-use Rattle.std.proofs.Common.{length}
-use Rattle.c_check_units.proofs.tags.+are_added.Given as goal
-
-abbrev pub decreases-are_added : goal.decreases-are_added
-decreases-are_added l = length l.ps.now

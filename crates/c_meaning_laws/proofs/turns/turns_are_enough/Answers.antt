@@ -1,5 +1,0 @@
-use Rattle.c_meaning_laws.proofs.EnoughTurns.{turns_are_enough}
-use Rattle.c_meaning_laws.proofs.turns.turns_are_enough.Goals as goal
-
-pub returns : goal.returns
-returns c = turns_are_enough

@@ -1,9 +1,0 @@
-use Rattle.std.proofs.Common.{◌≡◌, length}
-use Rattle.call_graph.specs.Callers.{Link, HasCaller}
-use Rattle.call_graph.proofs.callers.no_callers.Given as goal
-
-abbrev pub invariant-loop-i : goal.invariant-loop-i
-invariant-loop-i l = record {
-  many : length l.callers.items ≡ l._i;
-  none : (e : Link) → HasCaller l.callers.items e → ⊥;
-}

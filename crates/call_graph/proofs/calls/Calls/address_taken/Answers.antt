@@ -1,5 +1,0 @@
-use Rattle.call_graph.proofs.CallsLemmas.{taken_answer}
-use Rattle.call_graph.proofs.calls.Calls.address_taken.Goals as goal
-
-pub returns : goal.returns
-returns c = λ p are. taken_answer p c.args.self.now are c.args.f c.contains.result c.contains.ensures

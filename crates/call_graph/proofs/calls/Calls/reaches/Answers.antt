@@ -1,5 +1,0 @@
-use Rattle.call_graph.proofs.CallsLemmas.{reaches_answer}
-use Rattle.call_graph.proofs.calls.Calls.reaches.Goals as goal
-
-pub returns : goal.returns
-returns c = λ p are low. reaches_answer p c.args.self.now are c.args.f c.contains.result low c.contains.ensures

@@ -1,5 +1,0 @@
-mod Lists
-mod Nodes
-mod Rows
-mod Callers
-mod Counted

@@ -1,8 +1,0 @@
-use Rattle.c_syntax.specs.UnitView.{maybe_init_of, parts_of}
-use Rattle.call_places.specs.Places.{places_of_maybe_init, places_of_parts}
-use Rattle.call_places.proofs.Lists.{parts_flat, all_flat}
-use Rattle.call_places.proofs.declarations.add_parts.Goals as goal
-
-pub returns : goal.returns
-returns c =
-    all_flat (λ p. places_of_maybe_init (maybe_init_of p.init)) c.args.parts.now c.loop-part.part-index c.args.into.now.items c.loop-part.into.items (places_of_parts (parts_of c.args.parts.now)) c.loop-part-test.false (parts_flat c.args.parts.now) c.loop-part.invariant

@@ -1,8 +1,0 @@
-use Rattle.std.proofs.Common.{◌≡◌, ◌++◌, take}
-use Rattle.std.specs.Prelude.{flat_map}
-use Rattle.c_syntax.specs.View.{expr_of}
-use Rattle.call_places.specs.Places.{places}
-use Rattle.call_places.proofs.expressions.+places_in_trees.Given as goal
-
-abbrev pub invariant-add_expressions-loop-e : goal.invariant-add_expressions-loop-e
-invariant-add_expressions-loop-e l = l.into.items ≡ l.fn.into.items ++ flat_map (λ e. places (expr_of e)) (take l.e-index l.es)

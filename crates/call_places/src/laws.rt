@@ -1,7 +1,0 @@
-ghost use Rattle.call_places.specs.AreSites.{CallExpressionsAreSites};
-
-/// A law on units that are typed (C99 6.5.2.2): their call expressions are the sites of the program, in order; as many, and in turn in
-/// the same functions. The function does nothing.
-pub fn call_expressions_are_sites()
-    ensures { CallExpressionsAreSites }
-{}
