@@ -1,14 +1,11 @@
 -- What items give, where some of them give nothing.
-use Rattle.std.proofs.Common.{◌≡◌, Result, Ok, Err, ap, ◌∙◌, append_assoc}
+use Rattle.std.proofs.Common.{◌≡◌, Result, Ok, Err, ap, ◌∙◌}
 use Rattle.c_check_units.specs.CheckError.{CheckError}
 use Rattle.c_check_units.specs.Agreement.{AgreesWith}
 use Rattle.c_check_units.proofs.Parts.{names_on}
 use Rattle.c_check_units.proofs.OutputLemmas.{with_nothing}
 use Rattle.c_rules.specs.Checked.{Checked, fine, gives}
 use Rattle.c_rules.specs.Items.{Output, no_output, with_output}
-
-pub with_assoc : (p q r : Output) → with_output (with_output p q) r ≡ with_output p (with_output q r)
-with_assoc p q r = λ i. record { functions = append_assoc p.functions q.functions r.functions i; statics = append_assoc p.statics q.statics r.statics i }
 
 -- a part that gives nothing
 nothing_given : (r : Checked Output) → r ≡ fine no_output → (p : Output) → gives r (with_output p) ≡ fine p

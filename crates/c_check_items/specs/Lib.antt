@@ -1,3 +1,2 @@
-pub mod Views
 pub use Rattle.c_check_units.specs.OutputView
 pub use Rattle.c_check_units.specs.declared.outputs.Output

@@ -6,10 +6,8 @@ ghost use Rattle.c_rules.specs.Items.{after_item, after_items, behind_by_form, b
 ghost use Rattle.c_check_statements.specs.View.{before_of, env_of};
 ghost use Rattle.c_syntax.specs.UnitView.{item_at, items_of};
 
-use crate::enums::enum_item;
 use crate::functions::function_item;
-use crate::parts::add_parts;
-use crate::structs::{struct_item, tag_item};
+use c_check_globals::{add_parts, enum_item, struct_item, tag_item};
 use c_check_statements::{Before, Environment};
 use c_check_units::{CheckError, Output, no_output, push_tags};
 use c_syntax::{Item, ItemKind};

@@ -3,8 +3,9 @@
 #![tactic(auto)]
 
 mod declarations;
+mod instrumented;
 mod statement_nodes;
 mod statements;
 mod units;
 
-pub use units::instrument;
+pub use instrumented::instrumented_items;

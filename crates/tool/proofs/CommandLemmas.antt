@@ -29,12 +29,12 @@ use Rattle.tool_run.proofs.FileLemmas.{run_ready, run_apart, run_status}
 use Rattle.tool_explain.proofs.ExplainLemmas.{explain_ready, explained_apart, explain_status}
 use Rattle.tool_sites.proofs.FileLemmas.{sites_ready, sites_apart}
 use Rattle.tool_explain.proofs.FileLemmas.{check_ready, checked_apart, check_status, model_ready, modelled_apart, model_status}
-use Rattle.tool.specs.Command.{Command, IsCommandLine, IsAskedBy, judge_word}
-use Rattle.tool.specs.Command.{FileCommand, TraceCommand, file_word, trace_word, WordCommand, command_word}
-use Rattle.tool.specs.Command.FileCommand.{Check, Depth, Explain, Inline, Instrument, Model, Picture, Sites, Upgrade}
-use Rattle.tool.specs.Command.Command.{Version, OfWord, OfFile, OfTrace, Measure, Fleet, Run, Audit, Confirm, Certify, Selftest}
-use Rattle.tool.specs.Command.WordCommand.{Help, Codes}
-use Rattle.tool.specs.Command.TraceCommand.{Expected, Judge, Watch}
+use Rattle.tool_words.specs.Command.{Command, IsCommandLine, IsAskedBy, judge_word}
+use Rattle.tool_words.specs.Command.{FileCommand, TraceCommand, file_word, trace_word, WordCommand, command_word}
+use Rattle.tool_words.specs.Command.FileCommand.{Check, Depth, Explain, Inline, Instrument, Model, Picture, Sites, Upgrade}
+use Rattle.tool_words.specs.Command.Command.{Version, OfWord, OfFile, OfTrace, Measure, Fleet, Run, Audit, Confirm, Certify, Selftest}
+use Rattle.tool_words.specs.Command.WordCommand.{Help, Codes}
+use Rattle.tool_words.specs.Command.TraceCommand.{Expected, Judge, Watch}
 use Rattle.tool.specs.Commands.{Makes, Refuses, IsReady}
 
 -- command lines

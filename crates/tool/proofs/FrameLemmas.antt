@@ -10,8 +10,8 @@ use Rattle.dm_io.specs.Store.{Files}
 use Rattle.tool_frame.specs.declared.stop.Stop.{Stop}
 use Rattle.tool_frame.specs.declared.stop.Stop.TheVariants as stops
 use Rattle.tool_frame.specs.Stop.{IsFinished, status_of_stop}
-use Rattle.tool.specs.Command.{Command}
-use Rattle.tool.specs.Command.Command.{Selftest}
+use Rattle.tool_words.specs.Command.{Command}
+use Rattle.tool_words.specs.Command.Command.{Selftest}
 use Rattle.tool.specs.Commands.{Makes, Refuses, ReadsFiles, Lacks}
 use Rattle.tool.specs.Frame.{call_of, AsksToAudit, AsksToTest, HasCause, IsSound, IsRefused, IsUndisturbed, Writes}
 use Rattle.tool.specs.Stop.{HasStop, IsWorked}

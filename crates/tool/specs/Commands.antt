@@ -6,11 +6,11 @@ use Rattle.dm_base.specs.declared.verdict.Status.{Status}
 use Rattle.dm_base.specs.declared.verdict.Status.TheVariants.{Done}
 use Rattle.dm_io.specs.Store.{Files, IsMissing}
 use Rattle.tool_frame.specs.Stop.{IsFinished}
-use Rattle.tool.specs.Command.{Command}
-use Rattle.tool.specs.Command.FileCommand.{Check, Depth, Explain, Inline, Instrument, Model, Picture, Sites, Upgrade}
-use Rattle.tool.specs.Command.Command.{Version, OfWord, OfFile, OfTrace, Measure, Fleet, Run, Audit, Confirm, Certify, Selftest}
-use Rattle.tool.specs.Command.WordCommand.{Help, Codes}
-use Rattle.tool.specs.Command.TraceCommand.{Expected, Judge, Watch}
+use Rattle.tool_words.specs.Command.{Command}
+use Rattle.tool_words.specs.Command.FileCommand.{Check, Depth, Explain, Inline, Instrument, Model, Picture, Sites, Upgrade}
+use Rattle.tool_words.specs.Command.Command.{Version, OfWord, OfFile, OfTrace, Measure, Fleet, Run, Audit, Confirm, Certify, Selftest}
+use Rattle.tool_words.specs.Command.WordCommand.{Help, Codes}
+use Rattle.tool_words.specs.Command.TraceCommand.{Expected, Judge, Watch}
 use Rattle.tool_certify.specs.Certify.{TellsCertificate, RefusesToCertify, IsReadyToCertify}
 use Rattle.tool_certify.specs.Confirm.{TellsConfirmed, RefusesToConfirm, LacksToConfirm, IsReadyToConfirm}
 use Rattle.tool_selftest.specs.Audit.{Audits, IsAuditStatus, RefusesToAudit, LacksToAudit, IsReadyToAudit}

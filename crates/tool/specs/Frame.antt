@@ -6,8 +6,8 @@ use Rattle.dm_io.specs.Faults.{Rose}
 use Rattle.dm_io.specs.Sink.{Takes}
 use Rattle.dm_io.specs.Store.{Files}
 use Rattle.tool_frame.specs.Report.{TakesLine}
-use Rattle.tool.specs.Command.{Command, IsCommandLine}
-use Rattle.tool.specs.Command.Command.{Audit, Selftest}
+use Rattle.tool_words.specs.Command.{Command, IsCommandLine}
+use Rattle.tool_words.specs.Command.Command.{Audit, Selftest}
 use Rattle.tool.specs.Commands.{Makes, Refuses, ReadsFiles, Lacks, IsReady}
 
 -- what a call finds: its words, the told files, and the counts of faults of the store and of out, before it and after it

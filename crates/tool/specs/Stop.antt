@@ -6,7 +6,7 @@ use Rattle.dm_io.specs.Faults.{Rose}
 use Rattle.dm_io.specs.Store.{Files}
 use Rattle.tool_frame.specs.declared.stop.Stop.{Stop}
 use Rattle.tool_frame.specs.declared.stop.Stop.TheVariants as stops
-use Rattle.tool.specs.Command.{Command, IsCommandLine}
+use Rattle.tool_words.specs.Command.{Command, IsCommandLine}
 use Rattle.tool.specs.Commands.{Makes, Refuses, ReadsFiles, Lacks}
 
 -- some command of the words makes this text with this status

@@ -1,7 +1,6 @@
 //! The tool as one function of its words, a store of files and two sinks.
 #![tactic(auto)]
 
-mod command;
 mod laws;
 mod run;
 

@@ -5,7 +5,6 @@ ghost use Rattle.tool.specs.Frame.{call_of, AsksToAudit, AsksToTest, HasCause, W
 ghost use Rattle.tool.specs.Stop.{HasStop, IsWorked};
 ghost use Rattle.tool_frame.specs.Stop.{IsFinished};
 
-use crate::command::{Command, command_of};
 use dm_base::{OutOfMemory, Status};
 use dm_io::{HonestSink, HonestStore, Sink, Store, write_whole};
 use std::alloc::Global;
@@ -21,6 +20,7 @@ use tool_reading::{picture_of_model, tell_codes};
 use tool_run::run_source;
 use tool_selftest::{audit_source, self_test};
 use tool_sites::sites_of_source;
+use tool_words::{Command, command_of};
 
 const VERSION_TEXT: &[u8] = b"dyckmon 1\n";
 

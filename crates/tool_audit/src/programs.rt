@@ -15,8 +15,9 @@ use dm_base::{Mode, OutOfMemory};
 use headline::{
     instrumented_texts_run_marked, instrumented_units_are_lexical, instrumented_units_are_units,
 };
+use null_calls::instrumented_items;
 use std::alloc::Global;
-use tool_steps::{Source, check, instrumented_items};
+use tool_steps::{Source, check};
 
 // The want of memory, where no demand fails.
 fn memory_of(error: CheckError) -> OutOfMemory
@@ -37,7 +38,7 @@ pub fn instrumented_program(alloc: Global, source: &Source) -> Result<Program, O
     instrumented_units_are_units();
     instrumented_units_are_lexical();
     instrumented_texts_run_marked();
-    let items = instrumented_items(alloc, source)?;
+    let items = instrumented_items(alloc, &source.unit, &source.program)?;
     let unit = Unit { items };
     match check(alloc, &unit, Mode::Instrumented) {
         Ok(program) => Ok(program),

@@ -14,10 +14,11 @@ use c_syntax::{Item, Unit};
 use c_syntax_printing::{is_within, print};
 use dm_base::{Mode, OutOfMemory, Status};
 use dm_io::Store;
+use null_calls::instrumented_items;
 use null_calls_laws::{instrumented_texts_are_accepted, instrumented_units_are_units};
 use std::alloc::Global;
 use tool_frame::{Finished, Stop, fixed_line};
-use tool_steps::{Source, instrumented_items, source_in};
+use tool_steps::{Source, source_in};
 
 // The greatest length of an instrumented text, in bytes.
 const LONGEST: u32 = 16_777_216;
@@ -65,7 +66,7 @@ pub fn instrument_source<S: Store>(
     ensures stop { IfErr result (λ stop. Stops stop (RefusesToInstrument (S.files store.old) name.now) (IsMissing (S.files store.old) name.now) (S.faults store.old) (S.faults store.new)) }
 {
     let source = source_in(alloc, store, name, Mode::Plain)?;
-    let items = instrumented_items(alloc, &source)?;
+    let items = instrumented_items(alloc, &source.unit, &source.program)?;
     if !is_within(&items, LONGEST) {
         return Err(stop_with(alloc, b"source refused N1\n"));
     }

@@ -1,13 +1,10 @@
-//! What commands on C texts have in common: reading one (`tool_sources`), the records of a file, the model of a program, and the
-//! items of an instrumented unit.
+//! What commands on C texts have in common: reading one (`tool_sources`), the records of a file, and the model of a program.
 #![tactic(auto)]
 
-mod instrumented;
 mod modelling;
 mod refusals;
 mod results;
 
-pub use instrumented::instrumented_items;
 pub use modelling::{graph_text, model_of};
 pub use ref_machine::{Machine, Next, Run, next_event, run};
 pub use results::results_in;

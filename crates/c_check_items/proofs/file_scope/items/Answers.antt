@@ -1,7 +1,7 @@
 use Rattle.std.proofs.Common.{sym}
 use Rattle.c_check_units.proofs.Parts.{raised}
 use Rattle.c_check_units.specs.OutputView.{output_of}
-use Rattle.c_check_items.proofs.Loops.{item_more, item_fails, item_behind, item_after, items_end, past_end, counted_end}
+use Rattle.c_check_globals.proofs.Loops.{item_more, item_fails, item_behind, item_after, items_end, past_end, counted_end}
 use Rattle.c_rules.specs.Checked.{Checked}
 use Rattle.c_rules.specs.Items.{Output, after_items, behind_items, items}
 use Rattle.c_rules.specs.Scopes.{Env, Before}

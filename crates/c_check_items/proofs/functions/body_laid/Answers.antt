@@ -2,7 +2,7 @@ use Rattle.std.proofs.Common.{◌≡◌, ap, sym, ◌∙◌}
 use Rattle.std.specs.Prelude.{false}
 use Rattle.c_check_units.specs.Numbered.{next_of}
 use Rattle.c_check_units.proofs.Parts.{raised}
-use Rattle.c_check_items.proofs.Moves.{same_within, same_named}
+use Rattle.c_check_globals.proofs.Moves.{same_within, same_named}
 use Rattle.c_check_items.proofs.Within.{body_within, few_parameters}
 use Rattle.c_check_statements.specs.StatementTreeView.{statement_trees_of}
 use Rattle.c_check_units.specs.Scoped.{IsWithin}

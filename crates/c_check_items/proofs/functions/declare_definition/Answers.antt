@@ -1,7 +1,7 @@
 use Rattle.std.proofs.Common.{◌≡◌, refl, sym, ◌∙◌}
 use Rattle.std.specs.Prelude.{true}
 use Rattle.c_check_units.proofs.Parts.{raised, names_first, names_second}
-use Rattle.c_check_items.proofs.Moves.{both_is, node_fails, on_is}
+use Rattle.c_check_globals.proofs.Moves.{both_is, node_fails, on_is}
 use Rattle.c_rules.specs.Checked.{Checked, both, fine, on}
 use Rattle.c_rules.specs.Expressions.{type_declared}
 use Rattle.c_rules.specs.Functions.{behind_function, function_meaning}

@@ -1,6 +1,6 @@
 use Rattle.std.proofs.Common.{◌≡◌, ap, sym, subst, OnOk}
 use Rattle.c_check_items.proofs.FunctionTypes.{function_parts}
-use Rattle.c_check_items.proofs.Moves.{same_judged}
+use Rattle.c_check_globals.proofs.Moves.{same_judged}
 use Rattle.c_rules.specs.Checked.{Checked}
 use Rattle.c_rules.specs.Counts.{past}
 use Rattle.c_rules.specs.Functions.{defined_as, held_by_type, items_of_body}

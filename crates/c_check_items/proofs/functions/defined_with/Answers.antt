@@ -1,6 +1,6 @@
 use Rattle.std.proofs.Common.{◌≡◌, refl, sym, ◌∙◌}
 use Rattle.c_check_units.proofs.Parts.{names_first, names_node, names_on, names_parts, parts_judged, raised}
-use Rattle.c_check_items.proofs.Moves.{both_is, node_fails, on_is, on_ok, same_judged}
+use Rattle.c_check_globals.proofs.Moves.{both_is, node_fails, on_is, on_ok, same_judged}
 use Rattle.c_check_statements.specs.StatementTreeView.{statement_trees_of}
 use Rattle.c_rules.specs.Blocks.{StatementTree}
 use Rattle.c_rules.specs.Checked.{Checked, fine, faulty, Met, met, both, demand, on, parts_first}

@@ -1,6 +1,6 @@
 use Rattle.std.proofs.Common.{List, ◌++◌, ◌∙◌}
 use Rattle.std.specs.Prelude.{nat_le}
-use Rattle.c_check_items.proofs.Moves.{same_judged}
+use Rattle.c_check_globals.proofs.Moves.{same_judged}
 use Rattle.c_check_statements.specs.StatementTreeView.{statement_trees_of}
 use Rattle.c_rules.specs.Checked.{Checked, demand}
 use Rattle.c_rules.specs.Functions.{function_laid}

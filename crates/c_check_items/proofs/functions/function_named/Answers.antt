@@ -1,7 +1,7 @@
 use Rattle.std.proofs.Common.{◌≡◌, sym, ◌∙◌}
 use Rattle.std.specs.Prelude.{true}
 use Rattle.c_check_units.proofs.Parts.{raised}
-use Rattle.c_check_items.proofs.Moves.{IsFine, first_fine, on_is, on_more, same_judged, viewed_ends, wider_fails}
+use Rattle.c_check_globals.proofs.Moves.{IsFine, first_fine, on_is, on_more, same_judged, viewed_ends, wider_fails}
 use Rattle.c_rules.specs.Checked.{Checked, both, fine, on}
 use Rattle.c_rules.specs.Counts.{past}
 use Rattle.c_rules.specs.Declarators.{place_or}

@@ -1,0 +1,5 @@
+pub mod Enumerators
+pub mod HeldStructs
+pub mod Loops
+pub mod Moves
+pub mod Turns
