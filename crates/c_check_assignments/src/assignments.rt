@@ -7,7 +7,7 @@ ghost use Rattle.c_rules.specs.TypedExpression.{not_constant, tree_of, typed_val
 ghost use Rattle.c_check_values.specs.View.{env_of};
 ghost use Rattle.c_tree.specs.Tree.{assign};
 
-use crate::sides::{Sides, sides_of};
+use crate::sides::{Sides, answered, sides_of};
 use crate::updates::update;
 use c_check_values::{
     C3, C4, CheckError, Constant, Environment, TypedExpression, assigned, fits, typed_value,
@@ -67,7 +67,7 @@ fn assignment(
     if !fits(&p.ctype, &v) {
         return Err(CheckError::At(C3, at));
     }
-    Ok(converted_and_stored(alloc, p, v)?)
+    answered(converted_and_stored(alloc, p, v))
 }
 
 // The operator that an assignment operator has, by its number.

@@ -11,7 +11,6 @@ use dm_base::OutOfMemory;
 use std::alloc::Global;
 
 // An operand of a comma: its type and its typed tree.
-#[derive(Drop)]
 struct Operand {
     ctype: CType,
     tree: TExpr,
@@ -27,7 +26,6 @@ fn operand_of(alloc: Global, g: TypedExpression) -> Result<Operand, OutOfMemory>
 }
 
 // Operands of a comma.
-#[derive(Drop)]
 struct Operands {
     // The type of the last one.
     last: CType,

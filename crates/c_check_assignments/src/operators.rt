@@ -1,13 +1,15 @@
 ghost use Rattle.std.specs.Prelude.{◌≡◌, ◌||◌, IfOk};
 ghost use Rattle.c_check_values.specs.Agreement.{AgreesWith};
-ghost use Rattle.c_check_values.specs.TypedExpressionView.{typed_expression_of};
-ghost use Rattle.c_rules.specs.Conversions.{kind_of};
-ghost use Rattle.c_rules.specs.TypedExpression.{behind, is_place, tree_of};
+ghost use Rattle.c_check_values.specs.TypedExpressionView.{constant_of, typed_expression_of};
+ghost use Rattle.c_rules.specs.Conversions.{converted_to, kind_of};
+ghost use Rattle.c_rules.specs.TypedExpression.{behind, is_place, not_constant, tree_of, typed_value};
 ghost use Rattle.c_rules.specs.Types.{is_function};
 ghost use Rattle.c_rules.specs.UnaryExpressions.{address_of_form, address_of_type, address, indirection, plus_of, operated, operator_of, negation, unary_of_value, size_of, size_of_expression, size_of_type, cast_of, null_cast};
 ghost use Rattle.c_check_values.specs.View.{env_of};
+ghost use Rattle.c_tree.specs.Tree.{discard, integer, unary_operation, void};
 ghost use Rattle.c_tree.specs.View.{ctype_of};
 
+use crate::sides::{answered, operand_tree};
 use c_check_values::{
     C3, C4, C13, CheckError, Constant, Environment, Form, TypedExpression, cast_to, complete,
     constant_unary, converted_to, few_parts, is_function, is_integer, is_scalar, null_of,
@@ -35,7 +37,7 @@ fn address_of_form(
                 return Err(CheckError::At(C13, at));
             }
             let kind = TExprKind::AddressOf(Box::new(alloc, tree)?);
-            Ok(typed_value(alloc, pointer, kind, constant)?)
+            answered(typed_value(alloc, pointer, kind, constant))
         }
         Form::Behind(tree) => Ok(TypedExpression {
             ctype: pointer,
@@ -121,29 +123,38 @@ fn plus(alloc: Global, at: u32, g: TypedExpression) -> Result<TypedExpression, C
     match &g.ctype {
         CType::Int(i) => {
             let i = promoted(*i);
-            Ok(cast_to(alloc, i, g)?)
+            answered(cast_to(alloc, i, g))
         }
         _ => Err(CheckError::At(C3, at)),
     }
 }
 
-// An operator on an integer of this promoted type.
+// An operator on an operand, which gives this integer type and this constant.
+fn with_operator(
+    alloc: Global,
+    op: UnOp,
+    g: TypedExpression,
+    i: IntType,
+    constant: Constant,
+) -> Result<TypedExpression, OutOfMemory>
+    ensures { IfOk result (λ r. typed_expression_of r ≡ typed_value (integer i) (unary_operation (integer i) op (tree_of (typed_expression_of g))) (constant_of constant)) }
+{
+    let tree = operand_tree(alloc, g)?;
+    typed_value(alloc, CType::Int(i), TExprKind::Unary(op, tree), constant)
+}
+
+// An operator on an integer that is converted to this promoted type.
 fn operated(
     alloc: Global,
     op: UnOp,
     g: TypedExpression,
     i: IntType,
 ) -> Result<TypedExpression, OutOfMemory>
-    ensures { IfOk result (λ r. typed_expression_of r ≡ operated op (typed_expression_of g) i) }
+    ensures { IfOk result (λ r. typed_expression_of r ≡ operated op (converted_to i (typed_expression_of g)) i) }
 {
-    let constant = constant_unary(op, g.constant);
-    let tree = g.into_tree(alloc)?;
-    typed_value(
-        alloc,
-        CType::Int(i),
-        TExprKind::Unary(op, Box::new(alloc, tree)?),
-        constant,
-    )
+    let promoted = converted_to(alloc, i, g)?;
+    let constant = constant_unary(op, promoted.constant);
+    with_operator(alloc, op, promoted, i, constant)
 }
 
 // `-` and `~` of an integer.
@@ -158,8 +169,7 @@ fn operator(
     match &g.ctype {
         CType::Int(i) => {
             let i = promoted(*i);
-            let promoted = converted_to(alloc, i, g)?;
-            Ok(operated(alloc, op, promoted, i)?)
+            answered(operated(alloc, op, g, i))
         }
         _ => Err(CheckError::At(C3, at)),
     }
@@ -173,9 +183,7 @@ fn negation(alloc: Global, at: u32, g: TypedExpression) -> Result<TypedExpressio
         return Err(CheckError::At(C3, at));
     }
     let constant = constant_unary(UnOp::Not, g.integer_constant());
-    let tree = g.into_tree(alloc)?;
-    let kind = TExprKind::Unary(UnOp::Not, Box::new(alloc, tree)?);
-    Ok(typed_value(alloc, CType::Int(IntType::Int), kind, constant)?)
+    answered(with_operator(alloc, UnOp::Not, g, IntType::Int, constant))
 }
 
 /// A unary operator with a value as its operand, by the number of its punctuator (C99 6.5.3.2, 6.5.3.3).
@@ -244,6 +252,14 @@ pub fn size_of_type(
     size_of(env, at, place, t)
 }
 
+// A cast to void.
+fn discarded(alloc: Global, g: TypedExpression) -> Result<TypedExpression, OutOfMemory>
+    ensures { IfOk result (λ r. typed_expression_of r ≡ typed_value void (discard void (tree_of (typed_expression_of g))) not_constant) }
+{
+    let tree = operand_tree(alloc, g)?;
+    typed_value(alloc, CType::Void, TExprKind::Discard(tree), Constant::Not)
+}
+
 /// A cast to void, or of an integer to an integer type (C99 6.5.4).
 pub fn cast_of(
     alloc: Global,
@@ -254,16 +270,12 @@ pub fn cast_of(
     ensures { AgreesWith typed_expression_of result (cast_of at (ctype_of t.now) (typed_expression_of g)) }
 {
     match t {
-        CType::Void => {
-            let tree = g.into_tree(alloc)?;
-            let kind = TExprKind::Discard(Box::new(alloc, tree)?);
-            Ok(typed_value(alloc, CType::Void, kind, Constant::Not)?)
-        }
+        CType::Void => answered(discarded(alloc, g)),
         CType::Int(i) => {
             if !is_integer(&g.ctype) {
                 return Err(CheckError::At(C3, at));
             }
-            Ok(cast_to(alloc, *i, g)?)
+            answered(cast_to(alloc, *i, g))
         }
         _ => Err(CheckError::At(C3, at)),
     }
@@ -277,5 +289,5 @@ pub fn null_cast(alloc: Global, at: u32, g: &TypedExpression) -> Result<TypedExp
         return Err(CheckError::At(C3, at));
     }
     let void_pointer = pointer_to(alloc, &CType::Void)?;
-    Ok(null_of(alloc, &void_pointer)?)
+    answered(null_of(alloc, &void_pointer))
 }

@@ -8,7 +8,7 @@ ghost use Rattle.c_rules.specs.TypedExpression.{tree_of};
 ghost use Rattle.c_check_values.specs.View.{env_of};
 ghost use Rattle.c_tree.specs.Operands.{kind_of as kind_of_operator};
 
-use crate::sides::{Sides, sides_of};
+use crate::sides::{Sides, answered, sides_of};
 use c_check_values::{
     C3, CheckError, Constant, Environment, TypedExpression, common, complete, converted_to,
     promoted, typed_value,
@@ -22,8 +22,7 @@ fn right_type(op: BinOp, i: IntType, j: IntType) -> IntType
     ensures { result ≡ right_type (kind_of_operator op) i j }
 {
     match op {
-        BinOp::ShiftLeft => promoted(j),
-        BinOp::ShiftRight => promoted(j),
+        BinOp::ShiftLeft | BinOp::ShiftRight => promoted(j),
         _ => common(i, j),
     }
 }
@@ -33,8 +32,7 @@ fn moves(op: BinOp) -> bool
     ensures { result ≡ moves op }
 {
     match op {
-        BinOp::Add => true,
-        BinOp::Sub => true,
+        BinOp::Add | BinOp::Sub => true,
         _ => false,
     }
 }
@@ -140,5 +138,5 @@ pub fn update(
     ensures { AgreesWith typed_expression_of result (update_of (env_of env.now) at op old (typed_expression_of p) (typed_expression_of v) (kind_of (typed_expression_of p).ctype) (kind_of (typed_expression_of v).ctype)) }
 {
     let found = right_side(env, at, op, old, &p, &v)?;
-    Ok(updated_by(alloc, found, op, old, p, v)?)
+    answered(updated_by(alloc, found, op, old, p, v))
 }

@@ -7,10 +7,10 @@ use Rattle.std.proofs.lemmas.List.{drop_all, drop_more}
 use Rattle.c_check_initialisers.specs.SlotsLeft.{left_from, slot_at}
 use Rattle.c_syntax.proofs.NodeRows.{list_is}
 use Rattle.c_check_expressions.proofs.NodeLemmas.{past_none, past_past}
+use Rattle.c_check_expressions.proofs.Turns.{next_fine, next_fails}
 use Rattle.c_check_types.specs.CheckError.{CheckError}
 use Rattle.c_check_types.specs.CheckError.TheVariants as errors
 use Rattle.c_check_types.specs.Agreement.{Names, AgreesWith}
-use Rattle.c_check_types.proofs.Parts.{names_on, names_first}
 use Rattle.c_rules.specs.Checked.{Fault, Checked, fine, faulty, faults, both, demand, met, on}
 use Rattle.c_rules.specs.Codes.{C14}
 use Rattle.c_rules.specs.Counts.{calls, strings, past}
@@ -125,21 +125,16 @@ module _ (env : Env) (k : Bool) (t : CType) (x : Init) (xs : Inits) where
 inits_at : (is : List InitTree) (i : ℕ) (x : InitTree) → i < length is → x ≡ get_or is i x → inits_of (drop i is) ≡ more_inits (init_of x) (inits_of (drop (i + 1) is))
 inits_at is i x lt at = ap inits_of (drop_more is i x lt) ∙ ap (λ y. more_inits (init_of y) (inits_of (drop (i + 1) is))) (sym at)
 
-onto_one : (done gs : List TypedExpression) (r : Checked (List TypedExpression)) → onto_cells done (first_and (fine gs) r) ≡ onto_cells (done ++ gs) r
-onto_one done gs (fine hs) = ap fine (sym (append_assoc done gs hs))
-onto_one done gs (faulty f fs) = refl
-
 -- one more
 turn_more : (env : Env) (b1 b2 : Before) (k : Bool) (s : Slots) (is : List InitTree) (i : ℕ) (x : InitTree) (t : CType) (done gs new : List TypedExpression) (all : Checked (List TypedExpression)) → i < length is → x ≡ get_or is i x → slot_at s i ≡ Some t
     → all ≡ on (in_turn env b1 k (left_from s i) (inits_of (drop i is))) (λ hs. fine (done ++ hs)) → initialised env b1 k t (init_of x) ≡ fine gs → b2 ≡ after_init env b1 t (init_of x) → new ≡ done ++ gs
     → all ≡ on (in_turn env b2 k (left_from s (i + 1)) (inits_of (drop (i + 1) is))) (λ hs. fine (new ++ hs))
 turn_more env b1 b2 k s is i x t done gs new all lt at there before given counted grown =
-    before
-    ∙ (ap (λ r. onto_cells done (in_turn env b1 k (left_from s i) r)) (inits_at is i x lt at)
-    ∙ (ap (onto_cells done) (turn_on env k t (init_of x) (inits_of (drop (i + 1) is)) s i b1 there)
-    ∙ (ap (λ r. onto_cells done (first_and r (in_turn env (after_init env b1 t (init_of x)) k (left_from s (i + 1)) (inits_of (drop (i + 1) is))))) given
-    ∙ (onto_one done gs (in_turn env (after_init env b1 t (init_of x)) k (left_from s (i + 1)) (inits_of (drop (i + 1) is)))
-    ∙ (λ j. onto_cells (sym grown j) (in_turn env (sym counted j) k (left_from s (i + 1)) (inits_of (drop (i + 1) is))))))))
+    let rest : Inits = inits_of (drop (i + 1) is) in
+    let behind : Checked (List TypedExpression) = in_turn env (after_init env b1 t (init_of x)) k (left_from s (i + 1)) rest in
+    next_fine all (in_turn env b1 k (left_from s i) (inits_of (drop i is))) (initialised env b1 k t (init_of x)) behind (λ gs hs. fine (gs ++ hs)) (λ hs. fine (done ++ hs)) before
+    (ap (λ r. in_turn env b1 k (left_from s i) r) (inits_at is i x lt at) ∙ turn_on env k t (init_of x) rest s i b1 there) gs (λ hs. fine ((done ++ gs) ++ hs)) given (λ hs. ap fine (sym (append_assoc done gs hs)))
+    ∙ (λ j. onto_cells (sym grown j) (in_turn env (sym counted j) k (left_from s (i + 1)) rest))
 
 counted_more : (env : Env) (whole b1 b2 : Before) (s : Slots) (is : List InitTree) (i : ℕ) (x : InitTree) (t : CType) → i < length is → x ≡ get_or is i x → slot_at s i ≡ Some t
     → whole ≡ past b1 (calls_of_inits (inits_of (drop i is))) (held_in_turn env (left_from s i) (inits_of (drop i is))) → b2 ≡ after_init env b1 t (init_of x)
@@ -158,10 +153,8 @@ turn_fails : (e : CheckError) (env : Env) (b1 : Before) (k : Bool) (s : Slots) (
 turn_fails e env b1 k s is i x t done all lt at there before n =
     let rest : Inits = inits_of (drop (i + 1) is) in
     let behind : Checked (List TypedExpression) = in_turn env (after_init env b1 t (init_of x)) k (left_from s (i + 1)) rest in
-    let here : Names e (faults (first_and (initialised env b1 k t (init_of x)) behind)) = names_first e (initialised env b1 k t (init_of x)) behind (λ gs hs. fine (gs ++ hs)) n in
-    let onto : Names e (faults (onto_cells done (first_and (initialised env b1 k t (init_of x)) behind))) = names_on e (first_and (initialised env b1 k t (init_of x)) behind) (λ hs. fine (done ++ hs)) here in
-    subst (λ r. Names e (faults r))
-    (sym (before ∙ (ap (λ r. onto_cells done (in_turn env b1 k (left_from s i) r)) (inits_at is i x lt at) ∙ ap (onto_cells done) (turn_on env k t (init_of x) rest s i b1 there)))) onto
+    next_fails all (in_turn env b1 k (left_from s i) (inits_of (drop i is))) (initialised env b1 k t (init_of x)) behind (λ gs hs. fine (gs ++ hs)) (λ hs. fine (done ++ hs)) before
+    (ap (λ r. in_turn env b1 k (left_from s i) r) (inits_at is i x lt at) ∙ turn_on env k t (init_of x) rest s i b1 there) e n
 
 -- ## The end
 

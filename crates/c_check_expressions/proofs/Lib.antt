@@ -4,5 +4,6 @@ pub mod Loops
 pub mod NodeLemmas
 pub mod Parameters
 pub mod Trees
+pub mod Turns
 pub mod InitLemmas
 pub use Rattle.c_check_initialisers.proofs.LengthLemmas

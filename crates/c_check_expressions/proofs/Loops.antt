@@ -1,6 +1,6 @@
 -- Lists of expressions and of parameters, one after the other.
-use Rattle.std.proofs.Common.{◌≡◌, ℕ, ◌+◌, ◌<◌, ◌≤◌, List, [], ◌∷◌, ◌++◌, length, drop, get_or, map, Option, Some, None, refl, ap, sym, subst, ◌∙◌, arith, append_assoc, append-nil}
-use Rattle.std.proofs.lemmas.List.{drop_all, map-append}
+use Rattle.std.proofs.Common.{◌≡◌, ℕ, ◌+◌, ◌<◌, List, [], ◌∷◌, ◌++◌, length, drop, get_or, map, Option, Some, None, refl, ap, sym, subst, ◌∙◌, append_assoc}
+use Rattle.std.proofs.lemmas.List.{map-append}
 use Rattle.c_syntax.specs.declared.tree.Expr.{Expr as ExprTree}
 use Rattle.c_syntax.specs.declared.tree.Param.{Param as ParamTree}
 use Rattle.c_syntax.specs.Tree.{Ident, Params}
@@ -14,7 +14,7 @@ use Rattle.c_check_types.specs.CheckError.{CheckError}
 use Rattle.c_check_types.specs.TypedExpression.{TypedExpression as TypedExpressionTree}
 use Rattle.c_check_types.specs.TypedExpressionView.{typed_expression_of}
 use Rattle.c_check_types.specs.Agreement.{Names}
-use Rattle.c_check_types.proofs.Parts.{names_on, names_first}
+use Rattle.c_check_types.proofs.Parts.{names_first}
 use Rattle.c_check_types.proofs.PartsOfTypes.{at_place}
 use Rattle.c_rules.specs.Checked.{Checked, fine, faulty, faults, both}
 use Rattle.c_rules.specs.Counts.{calls, strings, calls_of_all, strings_of_all, past, after}
@@ -26,24 +26,17 @@ use Rattle.c_check_expressions.specs.Parts.{Declares, type_of_param, name_of_par
 use Rattle.c_check_counts.specs.Bound.{Bound}
 use Rattle.c_check_counts.specs.Environment.{Environment}
 use Rattle.c_check_expressions.proofs.NodeLemmas.{past_past}
+use Rattle.c_check_expressions.proofs.Turns.{next_fine, next_fails}
 
 -- ## Expressions
-
-onto_one : (done : List TypedExpression) (g : TypedExpression) (r : Checked (List TypedExpression)) → onto_givens done (both (fine g) r (λ x xs. fine (x ∷ xs))) ≡ onto_givens (done ++ g ∷ []) r
-onto_one done g (fine gs) = ap fine (sym (append_assoc done (g ∷ []) gs))
-onto_one done g (faulty f fs) = refl
-
-abbrev first_and : Checked TypedExpression → Checked (List TypedExpression) → Checked (List TypedExpression)
-first_and p q = both p q (λ x xs. fine (x ∷ xs))
 
 -- one more value
 pub value_more : (env env' : Env) (b b' : Before) (es : List ExprTree) (i : ℕ) (e : ExprTree) (done : List TypedExpressionTree) (g : TypedExpressionTree) (all : Checked (List TypedExpression)) → i < length es → e ≡ get_or es i e → all ≡ onto_givens (map typed_expression_of done) (trees env b (exprs_of (drop i es))) → value env b (expr_of e) ≡ fine (typed_expression_of g) → env' ≡ env → b' ≡ after b (expr_of e) → all ≡ onto_givens (map typed_expression_of (done ++ g ∷ [])) (trees env' b' (exprs_of (drop (i + 1) es)))
 value_more env env' b b' es i e done g all h q before v same on =
-    before
-    ∙ ap (λ l. onto_givens (map typed_expression_of done) (trees env b (exprs_of l))) (at_place es i e h q)
-    ∙ ap (λ r. onto_givens (map typed_expression_of done) (first_and r (trees env (after b (expr_of e)) (exprs_of (drop (i + 1) es))))) v
-    ∙ onto_one (map typed_expression_of done) (typed_expression_of g) (trees env (after b (expr_of e)) (exprs_of (drop (i + 1) es)))
-    ∙ ap (λ gs. onto_givens gs (trees env (after b (expr_of e)) (exprs_of (drop (i + 1) es)))) (sym (map-append typed_expression_of done (g ∷ [])))
+    let ds : List TypedExpression = map typed_expression_of done in
+    let rest : Checked (List TypedExpression) = trees env (after b (expr_of e)) (exprs_of (drop (i + 1) es)) in
+    next_fine all (trees env b (exprs_of (drop i es))) (value env b (expr_of e)) rest (λ x xs. fine (x ∷ xs)) (λ gs. fine (ds ++ gs)) before (ap (λ l. trees env b (exprs_of l)) (at_place es i e h q)) (typed_expression_of g) (λ gs. fine (map typed_expression_of (done ++ g ∷ []) ++ gs)) v
+    (λ gs. ap fine (sym (append_assoc ds (typed_expression_of g ∷ []) gs) ∙ ap (λ l. l ++ gs) (sym (map-append typed_expression_of done (g ∷ [])))))
     ∙ (λ j. onto_givens (map typed_expression_of (done ++ g ∷ [])) (trees (sym same j) (sym on j) (exprs_of (drop (i + 1) es))))
 
 pub counted_more : (whole b b' : Before) (es : List ExprTree) (i : ℕ) (e : ExprTree) → i < length es → e ≡ get_or es i e → whole ≡ past b (calls_of_all (exprs_of (drop i es))) (strings_of_all (exprs_of (drop i es))) → b' ≡ after b (expr_of e) → whole ≡ past b' (calls_of_all (exprs_of (drop (i + 1) es))) (strings_of_all (exprs_of (drop (i + 1) es)))
@@ -56,15 +49,8 @@ counted_more whole b b' es i e h q before on =
 -- a demand that fails in the next one
 pub value_fails : (err : CheckError) (env : Env) (b : Before) (es : List ExprTree) (i : ℕ) (e : ExprTree) (done : List TypedExpression) (all : Checked (List TypedExpression)) → i < length es → e ≡ get_or es i e → all ≡ onto_givens done (trees env b (exprs_of (drop i es))) → Names err (faults (value env b (expr_of e))) → Names err (faults all)
 value_fails err env b es i e done all h q before n =
-    let rest = trees env (after b (expr_of e)) (exprs_of (drop (i + 1) es)) in
-    let here : Names err (faults (first_and (value env b (expr_of e)) rest)) = names_first err (value env b (expr_of e)) rest (λ x xs. fine (x ∷ xs)) n in
-    let there : Names err (faults (onto_givens done (first_and (value env b (expr_of e)) rest))) = names_on err (first_and (value env b (expr_of e)) rest) (λ gs. fine (done ++ gs)) here in
-    subst (λ r. Names err (faults r)) (sym (before ∙ ap (λ l. onto_givens done (trees env b (exprs_of l))) (at_place es i e h q))) there
-
--- all of them
-pub values_end : (env : Env) (b : Before) (es : List ExprTree) (i : ℕ) (done : List TypedExpression) (all : Checked (List TypedExpression)) → length es ≤ i → all ≡ onto_givens done (trees env b (exprs_of (drop i es))) → all ≡ fine done
-values_end env b es i done all h before =
-    before ∙ ap (λ l. onto_givens done (trees env b (exprs_of l))) (drop_all i es h) ∙ ap fine (append-nil done)
+    let rest : Checked (List TypedExpression) = trees env (after b (expr_of e)) (exprs_of (drop (i + 1) es)) in
+    next_fails all (trees env b (exprs_of (drop i es))) (value env b (expr_of e)) rest (λ x xs. fine (x ∷ xs)) (λ gs. fine (done ++ gs)) before (ap (λ l. trees env b (exprs_of l)) (at_place es i e h q)) err n
 
 -- ## Parameters
 
@@ -75,13 +61,9 @@ before_one : (done : List TypeTree) (t : TypeTree) (ts : CTypes) → types_befor
 before_one [] t ts = refl
 before_one (d ∷ done) t ts = ap (more_types (ctype_of d)) (before_one done t ts)
 
-before_none : (done : List TypeTree) → types_before done no_types ≡ types_of done
+pub before_none : (done : List TypeTree) → types_before done no_types ≡ types_of done
 before_none [] = refl
 before_none (d ∷ done) = ap (more_types (ctype_of d)) (before_none done)
-
-onto_type : (done : List TypeTree) (t : TypeTree) (r : Checked CTypes) → onto_types done (type_and (fine (ctype_of t)) r) ≡ onto_types (done ++ t ∷ []) r
-onto_type done t (fine ts) = ap fine (before_one done t ts)
-onto_type done t (faulty f fs) = refl
 
 abbrev typed_from : Env → ℕ → Option Ident → Checked CType → Params → Checked CTypes
 typed_from env k n r ps = type_and (with_name_demands env n r) (parameters (behind_parameter env k n r) k ps)
@@ -93,12 +75,11 @@ params_at env k ps i p h q =
 -- one more parameter
 pub parameter_more : (env env' : Env) (ps : List ParamTree) (i k : ℕ) (p : ParamTree) (done : List TypeTree) (t : TypeTree) (all : Checked CTypes) → i < length ps → p ≡ get_or ps i p → all ≡ onto_types done (parameters env k (params_of (drop i ps))) → type_of_param env p ≡ fine (ctype_of t) → with_name_demands env (name_of_param p) (fine (ctype_of t)) ≡ fine (ctype_of t) → env' ≡ behind_parameter env k (name_of_param p) (fine (ctype_of t)) → all ≡ onto_types (done ++ t ∷ []) (parameters env' k (params_of (drop (i + 1) ps)))
 parameter_more env env' ps i k p done t all h q before v named on =
-    before
-    ∙ ap (onto_types done) (params_at env k ps i p h q)
-    ∙ ap (λ r. onto_types done (typed_from env k (name_of_param p) r (params_of (drop (i + 1) ps)))) v
-    ∙ ap (λ r. onto_types done (type_and r (parameters (behind_parameter env k (name_of_param p) (fine (ctype_of t))) k (params_of (drop (i + 1) ps))))) named
-    ∙ onto_type done t (parameters (behind_parameter env k (name_of_param p) (fine (ctype_of t))) k (params_of (drop (i + 1) ps)))
-    ∙ (λ j. onto_types (done ++ t ∷ []) (parameters (sym on j) k (params_of (drop (i + 1) ps))))
+    let r : Checked CType = fine (ctype_of t) in
+    let rest : Params = params_of (drop (i + 1) ps) in
+    next_fine all (parameters env k (params_of (drop i ps))) (with_name_demands env (name_of_param p) r) (parameters (behind_parameter env k (name_of_param p) r) k rest) (λ u us. fine (more_types u us)) (λ us. fine (types_before done us)) before
+    (params_at env k ps i p h q ∙ ap (λ u. typed_from env k (name_of_param p) u rest) v) (ctype_of t) (λ us. fine (types_before (done ++ t ∷ []) us)) named (λ us. ap fine (before_one done t us))
+    ∙ (λ j. onto_types (done ++ t ∷ []) (parameters (sym on j) k rest))
 
 -- a demand that fails on the next one: on its type, or on its name
 names_demanded : (err : CheckError) (env : Env) (n : Option Ident) (r : Checked CType) → Names err (faults r) → Names err (faults (with_name_demands env n r))
@@ -107,11 +88,8 @@ names_demanded err env (Some x) r h = names_first err r (new_name env x) (λ t _
 
 pub parameter_fails : (err : CheckError) (env : Env) (ps : List ParamTree) (i k : ℕ) (p : ParamTree) (done : List TypeTree) (all : Checked CTypes) → i < length ps → p ≡ get_or ps i p → all ≡ onto_types done (parameters env k (params_of (drop i ps))) → Names err (faults (with_name_demands env (name_of_param p) (type_of_param env p))) → Names err (faults all)
 parameter_fails err env ps i k p done all h q before n =
-    let demands = with_name_demands env (name_of_param p) (type_of_param env p) in
-    let rest = parameters (behind_parameter env k (name_of_param p) (type_of_param env p)) k (params_of (drop (i + 1) ps)) in
-    let here : Names err (faults (type_and demands rest)) = names_first err demands rest (λ t ts. fine (more_types t ts)) n in
-    let there : Names err (faults (onto_types done (type_and demands rest))) = names_on err (type_and demands rest) (λ ts. fine (types_before done ts)) here in
-    subst (λ r. Names err (faults r)) (sym (before ∙ ap (onto_types done) (params_at env k ps i p h q))) there
+    let rest : Checked CTypes = parameters (behind_parameter env k (name_of_param p) (type_of_param env p)) k (params_of (drop (i + 1) ps)) in
+    next_fails all (parameters env k (params_of (drop i ps))) (with_name_demands env (name_of_param p) (type_of_param env p)) rest (λ t ts. fine (more_types t ts)) (λ ts. fine (types_before done ts)) before (params_at env k ps i p h q) err n
 
 pub type_fails : (err : CheckError) (env : Env) (ps : List ParamTree) (i k : ℕ) (p : ParamTree) (done : List TypeTree) (all : Checked CTypes) → i < length ps → p ≡ get_or ps i p → all ≡ onto_types done (parameters env k (params_of (drop i ps))) → Names err (faults (type_of_param env p)) → Names err (faults all)
 type_fails err env ps i k p done all h q before n =
@@ -120,10 +98,6 @@ type_fails err env ps i k p done all h q before n =
 pub name_fails : (err : CheckError) (env : Env) (ps : List ParamTree) (i k : ℕ) (p : ParamTree) (done : List TypeTree) (t : TypeTree) (all : Checked CTypes) → i < length ps → p ≡ get_or ps i p → all ≡ onto_types done (parameters env k (params_of (drop i ps))) → type_of_param env p ≡ fine (ctype_of t) → Names err (faults (with_name_demands env (name_of_param p) (fine (ctype_of t)))) → Names err (faults all)
 name_fails err env ps i k p done t all h q before v n =
     parameter_fails err env ps i k p done all h q before (subst (λ r. Names err (faults (with_name_demands env (name_of_param p) r))) (sym v) n)
-
-pub parameters_end : (env : Env) (ps : List ParamTree) (i k : ℕ) (done : List TypeTree) (all : Checked CTypes) → length ps ≤ i → all ≡ onto_types done (parameters env k (params_of (drop i ps))) → all ≡ fine (types_of done)
-parameters_end env ps i k done all h before =
-    before ∙ ap (λ l. onto_types done (parameters env k (params_of l))) (drop_all i ps h) ∙ ap fine (before_none done)
 
 -- ## The beginning, and scopes that only grew
 

@@ -1,18 +1,16 @@
 -- What each form of an expression gives and counts, by its parts in Rust.
-use Rattle.std.proofs.Common.{◌≡◌, ◌⊎◌, inl, inr, ℕ, ℤ, Bool, ◌+◌, ◌≤◌, suc, drop, List, [], ◌∷◌, ◌++◌, length, Vec, Global, refl, ap, sym, ◌∙◌, arith, append_assoc, append-nil}
+use Rattle.std.proofs.Common.{◌≡◌, ◌⊎◌, inl, inr, ℕ, ℤ, Bool, ◌+◌, suc, List, [], ◌∷◌, ◌++◌, Vec, Global, refl, ap, sym, ◌∙◌, arith, append_assoc, append-nil}
 use Rattle.std.specs.Prelude.{Box}
-use Rattle.std.proofs.lemmas.List.{drop_all}
 use Rattle.c_syntax.specs.declared.tree.Expr.{Expr as ExprTree}
 use Rattle.c_syntax.specs.declared.tree.Ident.{Ident as Named}
 use Rattle.c_syntax.specs.declared.tree.TypeName.{TypeName as TypeTree}
-use Rattle.c_syntax.specs.declared.tree.ExprKind.{ExprKind, Name, Int, Char, Str, Comma', SizeofType, Cast', Call', Member', Arrow', PostInc', PostDec', PreInc', PreDec', SizeofExpr', Unary', Index', And', Or', Binary', Assign', Cond'}
+use Rattle.c_syntax.specs.declared.tree.ExprKind.{ExprKind, Name}
 use Rattle.c_syntax.specs.declared.tree.ExprKind.TheVariants as k
 use Rattle.c_syntax.specs.View.{expr_of, expr_at}
 use Rattle.c_syntax.specs.Writes.{exprs_of}
 use Rattle.c_syntax.proofs.NodeRows.{comma_is, call_is}
 use Rattle.c_rules.specs.Counts.{place_of, calls, strings, calls_of_all, strings_of_all, string_cells, past, after, after_designator}
 use Rattle.c_rules.specs.Scopes.{Before}
-use Rattle.c_rules.specs.Expressions.{value}
 
 -- ## Places
 
@@ -140,8 +138,3 @@ past_designator b x =
     let s : (b.sites + calls (expr_of x)) + 1 ≡ b.sites + suc (calls (expr_of x)) = omega arith in
     let c : (b.cells + string_cells (strings (expr_of x))) + 0 ≡ b.cells + string_cells (strings (expr_of x)) = omega arith in
     λ i. record { sites = s i; strings = append-nil (b.strings ++ strings (expr_of x)) i; cells = c i }
-
--- nothing is left to be counted
-pub counted_all : (whole b : Before) (es : List ExprTree) (i : ℕ) → length es ≤ i → whole ≡ past b (calls_of_all (exprs_of (drop i es))) (strings_of_all (exprs_of (drop i es))) → b ≡ whole
-counted_all whole b es i h q =
-    sym (q ∙ (ap (λ l. past b (calls_of_all (exprs_of l)) (strings_of_all (exprs_of l))) (drop_all i es h) ∙ past_none b))

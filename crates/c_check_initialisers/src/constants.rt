@@ -16,10 +16,7 @@ pub fn value_of_number(i: IntType, value: Value) -> Value
     ensures { result ≡ value_of i (number_of value) }
 {
     match value {
-        Value::Int(z) => convert(Value::Int(z), i),
-        Value::Uint(n) => convert(Value::Uint(n), i),
-        Value::Char(z) => convert(Value::Char(z), i),
-        Value::Uchar(n) => convert(Value::Uchar(n), i),
+        Value::Int(_) | Value::Uint(_) | Value::Char(_) | Value::Uchar(_) => convert(value, i),
         _ => convert(Value::Int(0), i),
     }
 }

@@ -1,5 +1,5 @@
-ghost use Rattle.std.specs.Prelude.{◌≡◌, ◌∷◌, [], IfOk};
-ghost use Rattle.c_check_initialisers.specs.CellView.{cells_of, typed_expressions_of};
+ghost use Rattle.std.specs.Prelude.{◌∷◌, []};
+ghost use Rattle.c_check_initialisers.specs.CellView.{cells_of};
 ghost use Rattle.c_check_values.specs.Agreement.{AgreesWith};
 ghost use Rattle.c_check_values.specs.TypedExpressionView.{typed_expression_of};
 ghost use Rattle.c_rules.specs.Checked.{fine};
@@ -8,12 +8,11 @@ ghost use Rattle.c_tree.specs.View.{ctype_of};
 
 use c_check_values::{C6, CheckError, Constant, TypedExpression, as_if_assigned};
 use c_tree::CType;
-use dm_base::OutOfMemory;
 use std::alloc::Global;
 
 // One cell.
-fn one_cell(alloc: Global, g: TypedExpression) -> Result<Vec<TypedExpression>, OutOfMemory>
-    ensures { IfOk result (λ cells. typed_expressions_of cells.items ≡ typed_expression_of g ∷ []) }
+fn one_cell(alloc: Global, g: TypedExpression) -> Result<Vec<TypedExpression>, CheckError>
+    ensures { AgreesWith cells_of result (fine (typed_expression_of g ∷ [])) }
 {
     let mut cells = Vec::new(alloc);
     cells.push(g)?;
@@ -30,12 +29,11 @@ fn cell_of(
     ensures { AgreesWith cells_of result (cell_of is_static at (typed_expression_of g)) }
 {
     if !is_static {
-        return Ok(one_cell(alloc, g)?);
+        return one_cell(alloc, g);
     }
     match g.constant {
-        Constant::Not => Err(CheckError::At(C6, at)),
-        Constant::Undefined => Err(CheckError::At(C6, at)),
-        Constant::Known(_) => Ok(one_cell(alloc, g)?),
+        Constant::Not | Constant::Undefined => Err(CheckError::At(C6, at)),
+        Constant::Known(_) => one_cell(alloc, g),
     }
 }
 

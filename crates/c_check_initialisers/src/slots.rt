@@ -92,8 +92,7 @@ pub fn takes_list(t: &CType) -> bool
     ensures { result ≡ takes_list (ctype_of t.now) }
 {
     match t {
-        CType::Array(_, _) => true,
-        CType::Struct(_) => true,
+        CType::Array(_, _) | CType::Struct(_) => true,
         _ => false,
     }
 }

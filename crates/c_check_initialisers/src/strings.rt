@@ -1,7 +1,7 @@
 ghost use Rattle.std.specs.Prelude.{◌≡◌, ◌++◌, map, replicate, IfOk, OnOk};
 ghost use Rattle.c_check_initialisers.specs.CellView.{cells_of, typed_expressions_of};
 ghost use Rattle.c_check_values.specs.Agreement.{AgreesWith};
-ghost use Rattle.c_rules.specs.Checked.{met, on};
+ghost use Rattle.c_rules.specs.Checked.{fine, met, on};
 ghost use Rattle.c_rules.specs.Initialisers.{array_cells, typed_char, chars, text_fits, text_of};
 ghost use Rattle.c_syntax.specs.View.{expr_of};
 ghost use Rattle.c_tree.specs.Tree.{integer};
@@ -43,8 +43,8 @@ fn add_zeros(
 }
 
 // A string in an array of so many chars; its zero is left out where there is no room.
-fn chars(alloc: Global, n: u32, text: &[u8]) -> Result<Vec<TypedExpression>, OutOfMemory>
-    ensures { IfOk result (λ cells. typed_expressions_of cells.items ≡ chars n text.now) }
+fn chars(alloc: Global, n: u32, text: &[u8]) -> Result<Vec<TypedExpression>, CheckError>
+    ensures { AgreesWith cells_of result (fine (chars n text.now)) }
 {
     let mut cells = text_cells(alloc, text)?;
     let left = (n as usize).saturating_sub(text.len());
@@ -64,7 +64,7 @@ fn string_cells(
     if text.len() > n as usize {
         return Err(CheckError::At(C14, at));
     }
-    Ok(chars(alloc, n, text)?)
+    chars(alloc, n, text)
 }
 
 // The limit on a string, where the expression is one.

@@ -36,8 +36,7 @@ fn add_zeros(
     ensures { OnOk result (AddsZeros (layout_of (env_of env.now)) depth (ctype_of t.now) (typed_expressions_of cells.old.items) (typed_expressions_of cells.new.items)) }
 {
     match t {
-        CType::Int(_) => add_zero(alloc, t, cells),
-        CType::Pointer(_) => add_zero(alloc, t, cells),
+        CType::Int(_) | CType::Pointer(_) => add_zero(alloc, t, cells),
         CType::Array(element, n) => add_copies(alloc, env, depth, element, *n, cells),
         CType::Struct(s) => add_struct(alloc, env, depth, *s, cells),
         _ => Ok(()),

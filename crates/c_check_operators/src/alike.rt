@@ -66,17 +66,15 @@ pub fn alike_of(a: &TypedExpression, b: &TypedExpression) -> Alike
                 Alike::Pointers(NullSide::Right)
             }
             CType::Pointer(_) => pointers_alike(a, b),
-            CType::Void => Alike::Unlike,
-            CType::Array(_, _) => Alike::Unlike,
-            CType::Struct(_) => Alike::Unlike,
-            CType::Function(_, _) => Alike::Unlike,
+            CType::Void | CType::Array(_, _) | CType::Struct(_) | CType::Function(_, _) => {
+                Alike::Unlike
+            }
         },
         _ => Alike::Unlike,
     }
 }
 
 /// Two pointers of one type.
-#[derive(Drop)]
 pub struct Pointers {
     pub left: TypedExpression,
     pub right: TypedExpression,

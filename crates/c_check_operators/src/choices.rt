@@ -10,7 +10,7 @@ ghost use Rattle.c_tree.specs.Tree.{integer};
 ghost use Rattle.c_tree.specs.View.{ctype_of};
 
 use crate::alike::{Alike, NullSide, Pointers, alike_of, made_pointers};
-use crate::trees::{Operands, operand_tree, operand_trees};
+use crate::trees::{Operands, answered, operand_tree, operand_trees};
 use c_check_values::{
     C3, CheckError, TypedExpression, constant_conditional, converted_to, is_scalar, is_void,
     typed_value,
@@ -89,7 +89,7 @@ fn void_arms(
     if !both_void(&a, &b) {
         return Err(CheckError::At(C3, at));
     }
-    Ok(chosen(alloc, CType::Void, c, a, b)?)
+    answered(chosen(alloc, CType::Void, c, a, b))
 }
 
 // Arms that are alike, or two voids.
@@ -103,8 +103,8 @@ fn arms(
     ensures { AgreesWith typed_expression_of result (arms_of at (typed_expression_of c) (typed_expression_of a) (typed_expression_of b) (alike (typed_expression_of a) (typed_expression_of b))) }
 {
     match alike_of(&a, &b) {
-        Alike::Integers(i) => Ok(integer_arms(alloc, i, c, a, b)?),
-        Alike::Pointers(side) => Ok(pointer_arms(alloc, side, c, a, b)?),
+        Alike::Integers(i) => answered(integer_arms(alloc, i, c, a, b)),
+        Alike::Pointers(side) => answered(pointer_arms(alloc, side, c, a, b)),
         Alike::Unlike => void_arms(alloc, at, c, a, b),
     }
 }

@@ -228,19 +228,12 @@ pub fn operation_of(
     match op {
         BinOp::Add => addition(env, at, a, b),
         BinOp::Sub => subtraction(env, at, a, b),
-        BinOp::Mul => balanced(at, op, a, b),
-        BinOp::Div => balanced(at, op, a, b),
-        BinOp::Rem => balanced(at, op, a, b),
-        BinOp::BitAnd => balanced(at, op, a, b),
-        BinOp::BitXor => balanced(at, op, a, b),
-        BinOp::BitOr => balanced(at, op, a, b),
-        BinOp::ShiftLeft => shift(at, op, a, b),
-        BinOp::ShiftRight => shift(at, op, a, b),
-        BinOp::Less => ordering(env, at, op, a, b),
-        BinOp::Greater => ordering(env, at, op, a, b),
-        BinOp::LessEqual => ordering(env, at, op, a, b),
-        BinOp::GreaterEqual => ordering(env, at, op, a, b),
-        BinOp::Equal => equality(at, op, a, b),
-        BinOp::NotEqual => equality(at, op, a, b),
+        BinOp::Mul | BinOp::Div | BinOp::Rem | BinOp::BitAnd | BinOp::BitXor | BinOp::BitOr =>
+            balanced(at, op, a, b),
+        BinOp::ShiftLeft | BinOp::ShiftRight => shift(at, op, a, b),
+        BinOp::Less | BinOp::Greater | BinOp::LessEqual | BinOp::GreaterEqual => {
+            ordering(env, at, op, a, b)
+        }
+        BinOp::Equal | BinOp::NotEqual => equality(at, op, a, b),
     }
 }

@@ -1,6 +1,6 @@
 ghost use Rattle.std.specs.Prelude.{◌≡◌, IfOk};
 ghost use Rattle.c_check_values.specs.TypedExpressionView.{typed_expression_of};
-ghost use Rattle.c_rules.specs.BinaryExpressions.{calculated, shifted, compared_integers};
+ghost use Rattle.c_rules.specs.BinaryExpressions.{shifted, compared_integers};
 ghost use Rattle.c_rules.specs.Constants.{constant_binary};
 ghost use Rattle.c_rules.specs.TypedExpression.{tree_of, typed_value};
 ghost use Rattle.c_tree.specs.Tree.{arithmetic, integer};
@@ -32,8 +32,9 @@ fn arithmetic(
     )
 }
 
-// A shift, which has the promoted type of its left operand (C99 6.5.7 paragraph 3).
-pub fn shifted(
+// Two operands that are each converted to a type; the result has that of the left one. They are one type (C99 6.5.5, 6.5.6, 6.5.10 to
+// 6.5.12), but for a shift (6.5.7 paragraph 3).
+pub fn calculated(
     alloc: Global,
     op: BinOp,
     i: IntType,
@@ -46,19 +47,6 @@ pub fn shifted(
     let left = converted_to(alloc, i, a)?;
     let right = converted_to(alloc, j, b)?;
     arithmetic(alloc, op, i, left, right)
-}
-
-// Two operands that are converted to one type, which the result has (C99 6.5.5, 6.5.6, 6.5.10 to 6.5.12).
-pub fn calculated(
-    alloc: Global,
-    op: BinOp,
-    i: IntType,
-    a: TypedExpression,
-    b: TypedExpression,
-) -> Result<TypedExpression, OutOfMemory>
-    ensures { IfOk result (λ r. typed_expression_of r ≡ calculated op i (typed_expression_of a) (typed_expression_of b)) }
-{
-    shifted(alloc, op, i, i, a, b)
 }
 
 // Two integers that are converted to one type and compared (C99 6.5.8, 6.5.9).

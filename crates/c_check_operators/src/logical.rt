@@ -7,7 +7,7 @@ ghost use Rattle.c_rules.specs.TypedExpression.{integer_constant, tree_of, typed
 ghost use Rattle.c_tree.specs.Functions.{int};
 ghost use Rattle.c_tree.specs.Tree.{and, or};
 
-use crate::trees::{Operands, operand_trees};
+use crate::trees::{Operands, answered, operand_trees};
 use c_check_values::{
     C3, CheckError, TypedExpression, constant_and, constant_or, is_scalar, typed_value,
 };
@@ -52,7 +52,7 @@ pub fn conjunction(
     if !both_scalars(&a, &b) {
         return Err(CheckError::At(C3, at));
     }
-    Ok(joined(alloc, a, b)?)
+    answered(joined(alloc, a, b))
 }
 
 // Two scalars under `||`.
@@ -85,5 +85,5 @@ pub fn disjunction(
     if !both_scalars(&a, &b) {
         return Err(CheckError::At(C3, at));
     }
-    Ok(parted(alloc, a, b)?)
+    answered(parted(alloc, a, b))
 }

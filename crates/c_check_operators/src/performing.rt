@@ -7,8 +7,9 @@ ghost use Rattle.c_check_values.specs.View.{env_of};
 
 use crate::comparisons::compared_pointers;
 use crate::finding::{Operation, addition, operation_of};
-use crate::integers::{calculated, compared_integers, shifted};
+use crate::integers::{calculated, compared_integers};
 use crate::pointers::{difference, moved_back, moved_on};
+use crate::trees::answered;
 use c_check_values::{CheckError, Environment, TypedExpression};
 use c_tree::BinOp;
 use dm_base::OutOfMemory;
@@ -24,8 +25,8 @@ fn performed(
     ensures { IfOk result (λ r. typed_expression_of r ≡ operation_as found (typed_expression_of a) (typed_expression_of b)) }
 {
     match found {
-        Operation::Arithmetic(op, i) => calculated(alloc, op, i, a, b),
-        Operation::Shift(op, i, j) => shifted(alloc, op, i, j, a, b),
+        Operation::Arithmetic(op, i) => calculated(alloc, op, i, i, a, b),
+        Operation::Shift(op, i, j) => calculated(alloc, op, i, j, a, b),
         Operation::OfIntegers(op, i) => compared_integers(alloc, op, i, a, b),
         Operation::OfPointers(op, side) => compared_pointers(alloc, op, side, a, b),
         Operation::PointerPlus => moved_on(alloc, true, a, b),
@@ -47,7 +48,7 @@ pub fn operation(
     ensures { AgreesWith typed_expression_of result (operation (env_of env.now) at op (typed_expression_of a) (typed_expression_of b)) }
 {
     let found = operation_of(env, at, op, &a, &b)?;
-    Ok(performed(alloc, found, a, b)?)
+    answered(performed(alloc, found, a, b))
 }
 
 /// `+` (C99 6.5.6 paragraph 2): two integers, or a pointer to an object and an integer; else C3 at `at`.
@@ -61,5 +62,5 @@ pub fn sum(
     ensures { AgreesWith typed_expression_of result (sum (env_of env.now) at (typed_expression_of a) (typed_expression_of b)) }
 {
     let found = addition(env, at, &a, &b)?;
-    Ok(performed(alloc, found, a, b)?)
+    answered(performed(alloc, found, a, b))
 }

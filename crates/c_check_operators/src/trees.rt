@@ -1,15 +1,16 @@
 ghost use Rattle.std.specs.Prelude.{◌≡◌, IfOk};
+ghost use Rattle.c_check_values.specs.Agreement.{AgreesWith};
 ghost use Rattle.c_check_values.specs.TypedExpressionView.{typed_expression_of};
+ghost use Rattle.c_rules.specs.Checked.{fine};
 ghost use Rattle.c_rules.specs.TypedExpression.{tree_of};
 ghost use Rattle.c_tree.specs.View.{expr_of};
 
-use c_check_values::TypedExpression;
+use c_check_values::{CheckError, TypedExpression};
 use c_tree::TExpr;
 use dm_base::OutOfMemory;
 use std::alloc::Global;
 
 /// The typed trees of two operands, in order.
-#[derive(Drop)]
 pub struct Operands {
     pub left: Box<TExpr>,
     pub right: Box<TExpr>,
@@ -35,4 +36,11 @@ pub fn operand_trees(
     let left = operand_tree(alloc, a)?;
     let right = operand_tree(alloc, b)?;
     Ok(Operands { left, right })
+}
+
+// What an operator gives, which only wants memory.
+pub fn answered(one: Result<TypedExpression, OutOfMemory>) -> Result<TypedExpression, CheckError>
+    ensures { (g : Rattle.c_rules.specs.TypedExpression.TypedExpression) → IfOk one (λ r. typed_expression_of r ≡ g) → AgreesWith typed_expression_of result (fine g) }
+{
+    Ok(one?)
 }

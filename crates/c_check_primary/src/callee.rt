@@ -1,3 +1,5 @@
+ghost use Rattle.std.specs.Prelude.{◌≡◌};
+
 use c_tree::{CType, TExpr};
 
 /// What is called (C99 6.5.2.2).
@@ -10,7 +12,6 @@ pub enum Designator {
 }
 
 /// What is called, with its type.
-#[derive(Drop)]
 pub struct Callee {
     /// The function.
     pub designator: Designator,
@@ -18,4 +19,30 @@ pub struct Callee {
     pub returns: CType,
     /// The types of its parameters.
     pub parameters: Vec<CType>,
+}
+
+impl Drop for Callee {
+    fn drop(self) {
+        let Self {
+            designator: _designator,
+            returns: _returns,
+            parameters: _parameters,
+        } = self;
+    }
+}
+
+impl Callee {
+    /// The function, what it returns, and the types of its parameters.
+    pub fn into_parts(self) -> (Designator, CType, Vec<CType>)
+        ensures designator { result.0 ≡ self.designator }
+        ensures returns { result.1 ≡ self.returns }
+        ensures parameters { result.2 ≡ self.parameters }
+    {
+        let Self {
+            designator,
+            returns,
+            parameters,
+        } = self;
+        (designator, returns, parameters)
+    }
 }

@@ -2,6 +2,7 @@ ghost use Rattle.std.specs.Prelude.{◌≡◌, ◌≤◌, map, IfOk};
 ghost use Rattle.c_check_values.specs.Agreement.{AgreesWith};
 ghost use Rattle.c_check_values.specs.TypedExpressionView.{typed_expression_of};
 ghost use Rattle.c_check_primary.specs.CalleeView.{callee_of, designator_of};
+ghost use Rattle.c_rules.specs.Checked.{fine};
 ghost use Rattle.c_rules.specs.TypedExpression.{typed_value, not_constant};
 ghost use Rattle.c_rules.specs.Limits.{most_calls};
 ghost use Rattle.c_rules.specs.PostfixExpressions.{site_of, callee_of_type, callee_by_name, callee_through, callee_by_value, call_of, called};
@@ -10,7 +11,7 @@ ghost use Rattle.c_tree.specs.Tree.{pointer};
 ghost use Rattle.c_tree.specs.View.{ctype_of, expr_of, exprs_of, types_of};
 
 use crate::callee::{Callee, Designator};
-use crate::names::{function_number, used};
+use crate::names::{answered, function_number, used};
 use crate::passing::{all_fit, as_many, passed};
 use c_check_values::{
     C3, C5, C6, C13, CheckError, Constant, Context, Environment, TypedExpression, typed_value,
@@ -58,8 +59,8 @@ fn callee_with(
     designator: Designator,
     returns: &CType,
     parameters: &[CType],
-) -> Result<Callee, OutOfMemory>
-    ensures { IfOk result (λ f. callee_of f ≡ record { designator = designator_of designator; returns = ctype_of returns.now; parameters = types_of parameters.now }) }
+) -> Result<Callee, CheckError>
+    ensures { AgreesWith callee_of result (fine (record { designator = designator_of designator; returns = ctype_of returns.now; parameters = types_of parameters.now })) }
 {
     let returns = copy_type(alloc, returns)?;
     let parameters = copy_types(alloc, parameters)?;
@@ -76,8 +77,7 @@ fn callee_of_type(alloc: Global, at: u32, t: &CType, f: u32) -> Result<Callee, C
 {
     match t {
         CType::Function(returns, parameters) => {
-            let callee = callee_with(alloc, Designator::Direct(f), returns, parameters)?;
-            Ok(callee)
+            callee_with(alloc, Designator::Direct(f), returns, parameters)
         }
         _ => Err(CheckError::At(C3, at)),
     }
@@ -103,8 +103,7 @@ fn callee_behind(alloc: Global, at: u32, tree: TExpr, t: &CType) -> Result<Calle
 {
     match t {
         CType::Function(returns, parameters) => {
-            let callee = callee_with(alloc, Designator::Through(tree), returns, parameters)?;
-            Ok(callee)
+            callee_with(alloc, Designator::Through(tree), returns, parameters)
         }
         _ => Err(CheckError::At(C3, at)),
     }
@@ -180,5 +179,6 @@ pub fn called(
         return Err(CheckError::At(C3, at));
     }
     let arguments = passed(alloc, &callee.parameters, gs)?;
-    Ok(call_of(alloc, callee.designator, callee.returns, site, arguments)?)
+    let (designator, returns, _parameters) = callee.into_parts();
+    answered(call_of(alloc, designator, returns, site, arguments))
 }

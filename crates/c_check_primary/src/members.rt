@@ -12,6 +12,7 @@ ghost use Rattle.c_tree.specs.Layout.{cells, cells_of_all, first_cell};
 ghost use Rattle.c_tree.specs.Tree.{field, void};
 ghost use Rattle.c_tree.specs.View.{ctype_of};
 
+use crate::names::answered;
 use c_check_values::{
     C1, C3, CheckError, Environment, Form, StructMember, TypedExpression, constant_member,
 };
@@ -117,7 +118,7 @@ fn member_of_struct(
             None => Err(CheckError::At(C1, at)),
             Some(k) => {
                 env.have_few_cells(s);
-                Ok(member_given(alloc, env, members, g, k)?)
+                answered(member_given(alloc, env, members, g, k))
             }
         },
     }

@@ -1,13 +1,16 @@
 ghost use Rattle.std.specs.Prelude.{◌≡◌, IfOk};
 ghost use Rattle.c_check_values.specs.Agreement.{AgreesWith};
 ghost use Rattle.c_check_values.specs.TypedExpressionView.{constant_of, typed_expression_of};
+ghost use Rattle.c_rules.specs.Checked.{fine};
 ghost use Rattle.c_rules.specs.Constants.{static_address};
 ghost use Rattle.c_rules.specs.Names.{number_among, given_names};
-ghost use Rattle.c_rules.specs.PrimaryExpressions.{given_number, used, object_number, function_number, function_value_number, static_given, local_given, typed_function, typed_int, meant, named_expression, integer_expression};
+ghost use Rattle.c_rules.specs.PrimaryExpressions.{given_number, used, object_number, function_number, function_value_number, static_given, typed_function, typed_int, meant, named_expression, integer_expression};
 ghost use Rattle.c_rules.specs.Scopes.{layout_of};
+ghost use Rattle.c_rules.specs.TypedExpression.{a_place};
 ghost use Rattle.c_check_values.specs.Bound.{meaning_of};
 ghost use Rattle.c_check_values.specs.View.{context_of, env_of};
 ghost use Rattle.c_tree.specs.Layout.{cells};
+ghost use Rattle.c_tree.specs.Tree.{variable};
 ghost use Rattle.c_tree.specs.View.{ctype_of};
 
 use c_check_values::{
@@ -18,6 +21,13 @@ use c_tree::{CType, IntType, TExpr, TExprKind, Value, copy_type};
 use dm_base::OutOfMemory;
 use std::alloc::Global;
 
+// What an expression gives, which only wants memory.
+pub fn answered(one: Result<TypedExpression, OutOfMemory>) -> Result<TypedExpression, CheckError>
+    ensures { (g : Rattle.c_rules.specs.TypedExpression.TypedExpression) → IfOk one (λ r. typed_expression_of r ≡ g) → AgreesWith typed_expression_of result (fine g) }
+{
+    Ok(one?)
+}
+
 // What is used is defined (C99 6.9 paragraph 5); an operand that isn't evaluated has a number that nobody reads.
 pub fn used(context: Context, at: u32, number: Option<u32>) -> Result<u32, CheckError>
     ensures { AgreesWith (λ n. n) result (used (context_of context) at number) }
@@ -26,8 +36,7 @@ pub fn used(context: Context, at: u32, number: Option<u32>) -> Result<u32, Check
         Some(n) => Ok(n),
         None => match context {
             Context::Evaluated => Err(CheckError::At(C10, at)),
-            Context::Sized => Ok(0),
-            Context::Folded => Ok(0),
+            Context::Sized | Context::Folded => Ok(0),
         },
     }
 }
@@ -72,6 +81,29 @@ fn address_of_object(env: &Environment<'_>, whole: &CType, number: u32) -> Const
     }
 }
 
+// A static object or a variable of the function, with this constant.
+fn variable(
+    alloc: Global,
+    seen: &CType,
+    whole: &CType,
+    is_static: bool,
+    number: u32,
+    constant: Constant,
+) -> Result<TypedExpression, OutOfMemory>
+    ensures { IfOk result (λ g. typed_expression_of g ≡ record { ctype = ctype_of seen.now; form = a_place (variable (ctype_of whole.now) is_static number); constant = constant_of constant }) }
+{
+    let ctype = copy_type(alloc, seen)?;
+    let whole = copy_type(alloc, whole)?;
+    Ok(TypedExpression {
+        ctype,
+        form: Form::Place(TExpr {
+            ctype: whole,
+            kind: TExprKind::Variable { is_static, number },
+        }),
+        constant,
+    })
+}
+
 // A static object.
 fn static_given(
     alloc: Global,
@@ -83,43 +115,7 @@ fn static_given(
     ensures { IfOk result (λ g. typed_expression_of g ≡ static_given (env_of env.now) (ctype_of seen.now) (ctype_of whole.now) number) }
 {
     let constant = address_of_object(env, whole, number);
-    let ctype = copy_type(alloc, seen)?;
-    let whole = copy_type(alloc, whole)?;
-    Ok(TypedExpression {
-        ctype,
-        form: Form::Place(TExpr {
-            ctype: whole,
-            kind: TExprKind::Variable {
-                is_static: true,
-                number,
-            },
-        }),
-        constant,
-    })
-}
-
-// A variable of the function.
-fn local_given(
-    alloc: Global,
-    seen: &CType,
-    whole: &CType,
-    number: u32,
-) -> Result<TypedExpression, OutOfMemory>
-    ensures { IfOk result (λ g. typed_expression_of g ≡ local_given (ctype_of seen.now) (ctype_of whole.now) number) }
-{
-    let ctype = copy_type(alloc, seen)?;
-    let whole = copy_type(alloc, whole)?;
-    Ok(TypedExpression {
-        ctype,
-        form: Form::Place(TExpr {
-            ctype: whole,
-            kind: TExprKind::Variable {
-                is_static: false,
-                number,
-            },
-        }),
-        constant: Constant::Not,
-    })
+    variable(alloc, seen, whole, true, number, constant)
 }
 
 // A function.
@@ -165,16 +161,16 @@ fn meant(
     match means {
         Meaning::Static { seen, whole, .. } => {
             let number = used(env.context, at, env.objects.number(name))?;
-            Ok(static_given(alloc, env, seen, whole, number)?)
+            answered(static_given(alloc, env, seen, whole, number))
         }
         Meaning::Local {
             number,
             seen,
             whole,
-        } => Ok(local_given(alloc, seen, whole, *number)?),
+        } => answered(variable(alloc, seen, whole, false, *number, Constant::Not)),
         Meaning::Function { ctype, .. } => {
             let number = function_value_number(env, at, name)?;
-            Ok(typed_function(alloc, ctype, number)?)
+            answered(typed_function(alloc, ctype, number))
         }
         Meaning::Enumerator(z) => Ok(typed_int(*z)),
     }

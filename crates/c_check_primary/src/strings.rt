@@ -27,8 +27,7 @@ fn most_cells_in(context: Context) -> u32
 {
     match context {
         Context::Evaluated => 1_048_576,
-        Context::Sized => 2_147_483_648,
-        Context::Folded => 2_147_483_648,
+        Context::Sized | Context::Folded => 2_147_483_648,
     }
 }
 

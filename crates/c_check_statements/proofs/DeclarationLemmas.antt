@@ -1,14 +1,14 @@
 -- Declarations in blocks, one after another.
-use Rattle.std.proofs.Common.{◌≡◌, ℕ, zero, suc, ◌+◌, ◌<◌, ◌≤◌, Bool, true, false, not, List, [], ◌∷◌, ◌++◌, length, drop, get_or, Option, Some, None, Result, slice_get, refl, ap, sym, subst, ◌∙◌}
+use Rattle.std.proofs.Common.{◌≡◌, ℕ, zero, suc, ◌+◌, ◌<◌, Bool, true, false, not, List, [], ◌∷◌, ◌++◌, length, drop, get_or, Option, Some, None, Result, slice_get, refl, ap, sym, subst, ◌∙◌}
 use Rattle.std.specs.Prelude.{is_some, is_none}
-use Rattle.std.proofs.lemmas.List.{drop_all, drop_more}
+use Rattle.std.proofs.lemmas.List.{drop_more}
 use Rattle.c_check_declarations.specs.CheckError.{CheckError}
 use Rattle.c_check_declarations.specs.Agreement.{Names, AgreesWith}
 use Rattle.c_check_declarations.proofs.Parts.{names_on, names_first, names_second}
 use Rattle.c_check_bodies.specs.declared.statement_tree.StatementTree.{StatementTree as StatementTreeOfCode}
 use Rattle.c_check_bodies.specs.StatementTreeView.{statement_tree_of}
 use Rattle.c_check_statements.specs.Ruled.{given_seen, local_as}
-use Rattle.c_rules.specs.Blocks.{StatementTree, after_part, alone, behind_local, behind_part, behind_parts, held_by_part, held_by_parts, given_at, is_given, local, local_named, local_of, local_part, local_parts, one_more, past_part, some_more, within_local}
+use Rattle.c_rules.specs.Blocks.{StatementTree, after_part, alone, behind_local, behind_part, held_by_part, held_by_parts, given_at, is_given, local, local_named, local_of, local_part, local_parts, one_more, past_part, some_more, within_local}
 use Rattle.c_rules.specs.Checked.{Checked, fine, faulty, faults, both, gives, on, demand, and_also, fails_with, Met, met}
 use Rattle.c_rules.specs.Codes.{C2, C3, C11, C12}
 use Rattle.c_rules.specs.Counts.{past}
@@ -18,9 +18,10 @@ use Rattle.c_rules.specs.Initialisers.{Slots, copies, each, calls_of_maybe_init,
 use Rattle.c_rules.specs.Names.{Name, number_among, is_among, given_names, given_types, is_given_type, may_be_declared}
 use Rattle.c_rules.specs.Objects.{Object, object_declared, object_of}
 use Rattle.c_rules.specs.Scopes.{Env, Before, Meaning, a_local, meaning_or_unknown, with_name, declared_here}
-use Rattle.c_rules.specs.Variables.{Next, calls_of_parts, names_of_parts, number_in, past_names}
+use Rattle.c_rules.specs.Variables.{Next, calls_of_parts, number_in}
 use Rattle.c_check_expressions.proofs.NodeLemmas.{past_past}
-use Rattle.c_check_statements.proofs.StatementLemmas.{alone_and, laid_and, onto_laid, onto_one, more_none}
+use Rattle.c_check_expressions.proofs.Turns.{next_fine, next_fails}
+use Rattle.c_check_statements.proofs.StatementLemmas.{onto_laid, more_assoc}
 use Rattle.c_syntax.specs.declared.tree.DeclPart.{DeclPart}
 use Rattle.c_syntax.specs.Tree as syntax
 use Rattle.c_syntax.specs.Tree.{Ident, Init, one, list, MaybeInit, no_init, an_init, Parts, more_parts, Spec, Declarator}
@@ -59,11 +60,9 @@ pub held_within : (env : Env) (x : Name) (m : Meaning) (t : CType) (i : MaybeIni
 held_within env x m t no_init = refl
 held_within env x m t (an_init i) = held_named env x m t i
 
--- ## One variable
-
 -- ## Declarators
 
-parts_at : (ps : List DeclPart) (i : ℕ) (p : DeclPart) → i < length ps → p ≡ get_or ps i p → parts_of (drop i ps) ≡ more_parts (declarator_of p.declarator) (maybe_init_of p.init) (parts_of (drop (i + 1) ps))
+pub parts_at : (ps : List DeclPart) (i : ℕ) (p : DeclPart) → i < length ps → p ≡ get_or ps i p → parts_of (drop i ps) ≡ more_parts (declarator_of p.declarator) (maybe_init_of p.init) (parts_of (drop (i + 1) ps))
 parts_at ps i p lt at =
     ap parts_of (drop_more ps i p lt) ∙ ap (λ q. more_parts (declarator_of q.declarator) (maybe_init_of q.init) (parts_of (drop (i + 1) ps))) (sym at)
 
@@ -76,11 +75,9 @@ module _ (at : ℕ) (s : Spec) (ps : List DeclPart) (i : ℕ) (p : DeclPart) whe
   part_more env env' b b' next next' d new single all lt is before given meant counted numbered grown =
       let rest : Parts = parts_of (drop (i + 1) ps) in
       let behind : Checked (StatementTree typed.Stmts) = local_parts (behind_part env next at s (declarator_of p.declarator) (maybe_init_of p.init)) (after_part env b at s (declarator_of p.declarator) (maybe_init_of p.init)) (past_part next (declarator_of p.declarator)) at s rest in
-      before
-      ∙ (ap (λ r. onto_laid d (local_parts env b next at s r)) (parts_at ps i p lt is)
-      ∙ (ap (onto_laid d) (alone_and (local_part env b next at s (declarator_of p.declarator) (maybe_init_of p.init)) behind)
-      ∙ (ap (λ r. onto_laid d (laid_and (gives r alone) behind)) given
-      ∙ (onto_one d (alone single) behind ∙ (λ j. onto_laid (sym grown j) (local_parts (sym meant j) (sym counted j) (sym numbered j) at s rest))))))
+      next_fine all (local_parts env b next at s (parts_of (drop i ps))) (local_part env b next at s (declarator_of p.declarator) (maybe_init_of p.init)) behind (λ u q. fine (one_more u q)) (λ q. fine (some_more d q)) before
+      (ap (λ r. local_parts env b next at s r) (parts_at ps i p lt is)) single (λ q. fine (some_more (some_more d (alone single)) q)) given (λ q. ap fine (sym (more_assoc d (alone single) q)))
+      ∙ (λ j. onto_laid (sym grown j) (local_parts (sym meant j) (sym counted j) (sym numbered j) at s rest))
 
   -- a demand that fails in the next one
   pub part_fails : (e : CheckError) (env : Env) (b : Before) (next : Next) (d : StatementTree typed.Stmts) (all : Checked (StatementTree typed.Stmts)) → i < length ps → p ≡ get_or ps i p
@@ -88,10 +85,7 @@ module _ (at : ℕ) (s : Spec) (ps : List DeclPart) (i : ℕ) (p : DeclPart) whe
   part_fails e env b next d all lt is before n =
       let rest : Parts = parts_of (drop (i + 1) ps) in
       let behind : Checked (StatementTree typed.Stmts) = local_parts (behind_part env next at s (declarator_of p.declarator) (maybe_init_of p.init)) (after_part env b at s (declarator_of p.declarator) (maybe_init_of p.init)) (past_part next (declarator_of p.declarator)) at s rest in
-      let first : Checked (StatementTree typed.Stmt) = local_part env b next at s (declarator_of p.declarator) (maybe_init_of p.init) in
-      let here : Names e (faults (both first behind (λ p q. fine (one_more p q)))) = names_first e first behind (λ p q. fine (one_more p q)) n in
-      let onto : Names e (faults (onto_laid d (both first behind (λ p q. fine (one_more p q))))) = names_on e (both first behind (λ p q. fine (one_more p q))) (λ q. fine (some_more d q)) here in
-      subst (λ r. Names e (faults r)) (sym (before ∙ ap (λ r. onto_laid d (local_parts env b next at s r)) (parts_at ps i p lt is))) onto
+      next_fails all (local_parts env b next at s (parts_of (drop i ps))) (local_part env b next at s (declarator_of p.declarator) (maybe_init_of p.init)) behind (λ u q. fine (one_more u q)) (λ q. fine (some_more d q)) before (ap (λ r. local_parts env b next at s r) (parts_at ps i p lt is)) e n
 
   pub part_counted : (env env' : Env) (b b' whole : Before) (next next' : Next) → i < length ps → p ≡ get_or ps i p
       → whole ≡ past b (calls_of_parts (parts_of (drop i ps))) (held_by_parts env next at s (parts_of (drop i ps)))
@@ -105,20 +99,6 @@ module _ (at : ℕ) (s : Spec) (ps : List DeclPart) (i : ℕ) (p : DeclPart) whe
       ∙ (ap (λ r. past b (calls_of_parts r) (held_by_parts env next at s r)) (parts_at ps i p lt is)
       ∙ (sym (past_past b (calls_of_maybe_init m) (calls_of_parts rest) (held_by_part env at s d m) (held_by_parts (behind_part env next at s d m) (past_part next d) at s rest))
       ∙ (λ j. past (sym counted j) (calls_of_parts rest) (held_by_parts (sym meant j) (sym numbered j) at s rest))))
-
-  pub part_meant : (env env' whole : Env) (next next' : Next) → i < length ps → p ≡ get_or ps i p → whole ≡ behind_parts env next at s (parts_of (drop i ps))
-      → env' ≡ behind_part env next at s (declarator_of p.declarator) (maybe_init_of p.init) → next' ≡ past_part next (declarator_of p.declarator) → whole ≡ behind_parts env' next' at s (parts_of (drop (i + 1) ps))
-  part_meant env env' whole next next' lt is before meant numbered =
-      before ∙ (ap (behind_parts env next at s) (parts_at ps i p lt is) ∙ (λ j. behind_parts (sym meant j) (sym numbered j) at s (parts_of (drop (i + 1) ps))))
-
-  pub part_numbered : (next next' whole : Next) → i < length ps → p ≡ get_or ps i p → whole ≡ past_names next (names_of_parts (parts_of (drop i ps))) → next' ≡ past_part next (declarator_of p.declarator)
-      → whole ≡ past_names next' (names_of_parts (parts_of (drop (i + 1) ps)))
-  part_numbered next next' whole lt is before numbered =
-      before ∙ (ap (λ r. past_names next (names_of_parts r)) (parts_at ps i p lt is) ∙ ap (λ n. past_names n (names_of_parts (parts_of (drop (i + 1) ps)))) (sym numbered))
-
-pub parts_end : (env : Env) (b : Before) (next : Next) (at : ℕ) (s : Spec) (ps : List DeclPart) (i : ℕ) (d : StatementTree typed.Stmts) (all : Checked (StatementTree typed.Stmts)) → length ps ≤ i → all ≡ onto_laid d (local_parts env b next at s (parts_of (drop i ps))) → all ≡ fine d
-parts_end env b next at s ps i d all le before =
-    before ∙ (ap (λ l. onto_laid d (local_parts env b next at s (parts_of l))) (drop_all i ps le) ∙ ap fine (more_none d))
 
 -- ## Demands on one variable
 

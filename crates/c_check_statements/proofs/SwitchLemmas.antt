@@ -1,11 +1,11 @@
 -- Labels and groups of a switch, one after another.
-use Rattle.std.proofs.Common.{◌≡◌, ℕ, ◌+◌, ◌<◌, ◌≤◌, List, [], ◌∷◌, ◌++◌, length, drop, get_or, refl, ap, sym, subst, ◌∙◌, append_assoc, append-nil}
-use Rattle.std.proofs.lemmas.List.{drop_all, drop_more}
+use Rattle.std.proofs.Common.{◌≡◌, ℕ, ◌+◌, ◌<◌, List, [], ◌∷◌, ◌++◌, length, drop, get_or, refl, ap, sym, subst, ◌∙◌, append_assoc, append-nil}
+use Rattle.std.proofs.lemmas.List.{drop_more}
 use Rattle.c_syntax.proofs.NodeRows.{group_is}
 use Rattle.c_check_bodies.specs.Named.{names_of_group}
 use Rattle.c_check_declarations.specs.CheckError.{CheckError}
 use Rattle.c_check_declarations.specs.Agreement.{Names}
-use Rattle.c_check_declarations.proofs.Parts.{names_on, names_first}
+use Rattle.c_check_declarations.proofs.Parts.{names_on}
 use Rattle.c_check_bodies.specs.LabelledView.{groups_before, labelled_before}
 use Rattle.c_rules.specs.Blocks.{StatementTree, after_stmts, held_by_groups, held_by_stmts}
 use Rattle.c_rules.specs.Checked.{Checked, fine, faulty, faults, all_three, both, gives, on}
@@ -16,8 +16,8 @@ use Rattle.c_rules.specs.Variables.{Next, calls_of_groups, calls_of_stmts, names
 use Rattle.c_check_statements.specs.Listed.{label_alone, labels_in, stmts_in}
 use Rattle.c_check_statements.specs.Ruled.{group_behind}
 use Rattle.c_check_statements.proofs.PartLemmas.{faulty_not_fine, fine_same, names_of_three}
-use Rattle.c_check_expressions.proofs.NodeLemmas.{past_past, past_none}
-use Rattle.c_check_statements.proofs.StatementLemmas.{names_append}
+use Rattle.c_check_expressions.proofs.NodeLemmas.{past_past}
+use Rattle.c_check_expressions.proofs.Turns.{next_fine, next_fails}
 use Rattle.c_syntax.specs.declared.tree.Group.{Group}
 use Rattle.c_syntax.specs.declared.tree.Label.{Label}
 use Rattle.c_syntax.specs.declared.tree.LabelKind.{LabelKind}
@@ -54,26 +54,19 @@ label_rule env i at kinds.Default ls = default_and (labels_of env i ls)
 labels_at : (ls : List Label) (n : ℕ) (l : Label) → n < length ls → l ≡ get_or ls n l → labels_seen (drop n ls) ≡ label_before l.at l.kind (labels_seen (drop (n + 1) ls))
 labels_at ls n l lt is = ap labels_seen (drop_more ls n l lt) ∙ ap (λ x. label_before x.at x.kind (labels_seen (drop (n + 1) ls))) (sym is)
 
-onto_label : (done : List TLabel) (l : TLabel) (r : Checked (List TLabel)) → onto_labels done (labels_and (fine l) r) ≡ onto_labels (done ++ l ∷ []) r
-onto_label done l (fine ls) = ap fine (sym (append_assoc done (l ∷ []) ls))
-onto_label done l (faulty g gs) = refl
-
 pub label_more : (env here : Env) (i : IntType) (ls : List Label) (n : ℕ) (l : Label) (done new : List TLabel) (t : TLabel) (all : Checked (List TLabel)) → n < length ls → l ≡ get_or ls n l → here ≡ env
     → all ≡ onto_labels done (labels_of env i (labels_seen (drop n ls))) → label_alone here i l.kind ≡ fine t → new ≡ done ++ t ∷ [] → all ≡ onto_labels new (labels_of env i (labels_seen (drop (n + 1) ls)))
 label_more env here i ls n l done new t all lt is same before given grown =
     let rest : Labels = labels_seen (drop (n + 1) ls) in
-    before
-    ∙ (ap (λ r. onto_labels done (labels_of env i r)) (labels_at ls n l lt is)
-    ∙ (ap (onto_labels done) (label_rule env i l.at l.kind rest)
-    ∙ (ap (λ p. onto_labels done (labels_and p (labels_of env i rest))) ((λ j. label_alone (sym same j) i l.kind) ∙ given) ∙ (onto_label done t (labels_of env i rest) ∙ ap (λ ts. onto_labels ts (labels_of env i rest)) (sym grown)))))
+    next_fine all (labels_of env i (labels_seen (drop n ls))) (label_alone env i l.kind) (labels_of env i rest) (λ u us. fine (u ∷ us)) (λ us. fine (done ++ us)) before
+    (ap (λ r. labels_of env i r) (labels_at ls n l lt is) ∙ label_rule env i l.at l.kind rest) t (λ us. fine (new ++ us)) ((λ j. label_alone (sym same j) i l.kind) ∙ given) (λ us. ap fine (sym (append_assoc done (t ∷ []) us) ∙ ap (λ ts. ts ++ us) (sym grown)))
 
 pub label_fails : (e : CheckError) (env here : Env) (i : IntType) (ls : List Label) (n : ℕ) (l : Label) (done : List TLabel) (all : Checked (List TLabel)) → n < length ls → l ≡ get_or ls n l → here ≡ env
     → all ≡ onto_labels done (labels_of env i (labels_seen (drop n ls))) → Names e (faults (label_alone here i l.kind)) → Names e (faults all)
 label_fails e env here i ls n l done all lt is same before h =
     let rest : Labels = labels_seen (drop (n + 1) ls) in
-    let here : Names e (faults (labels_and (label_alone env i l.kind) (labels_of env i rest))) = names_first e (label_alone env i l.kind) (labels_of env i rest) (λ t ts. fine (t ∷ ts)) (subst (λ v. Names e (faults (label_alone v i l.kind))) same h) in
-    let onto : Names e (faults (onto_labels done (labels_and (label_alone env i l.kind) (labels_of env i rest)))) = names_on e (labels_and (label_alone env i l.kind) (labels_of env i rest)) (λ ts. fine (done ++ ts)) here in
-    subst (λ r. Names e (faults r)) (sym (before ∙ (ap (λ r. onto_labels done (labels_of env i r)) (labels_at ls n l lt is) ∙ ap (onto_labels done) (label_rule env i l.at l.kind rest)))) onto
+    next_fails all (labels_of env i (labels_seen (drop n ls))) (label_alone env i l.kind) (labels_of env i rest) (λ u us. fine (u ∷ us)) (λ us. fine (done ++ us)) before
+    (ap (λ r. labels_of env i r) (labels_at ls n l lt is) ∙ label_rule env i l.at l.kind rest) e (subst (λ v. Names e (faults (label_alone v i l.kind))) same h)
 
 -- ## Groups
 
@@ -95,7 +88,7 @@ one_behind d vs p q = λ i. record {
   labels = (ap (λ z. d.labels ++ (z ++ q.labels)) (sym (append-nil vs)) ∙ sym (append_assoc d.labels (vs ++ []) q.labels)) i;
 }
 
-none_behind : (d : Labelled) → labelled_before d no_labelled ≡ d
+pub none_behind : (d : Labelled) → labelled_before d no_labelled ≡ d
 none_behind d = λ i. record {
   groups = record { tree = tree_none d.groups.tree i; plain = append-nil d.groups.plain i; added = append-nil d.groups.added i };
   labels = append-nil d.labels i;
@@ -117,11 +110,14 @@ groups_at : (gs : List Group) (n : ℕ) (g : Group) → n < length gs → g ≡ 
 groups_at gs n g lt is =
     ap groups_of (drop_more gs n g lt ∙ ap (λ x. x ∷ drop (n + 1) gs) (sym is)) ∙ group_is g (groups_of (drop (n + 1) gs))
 
-names_in : (g : Group) → names_of_group g ≡ names_of_stmts (stmts_in g) ++ []
-names_in g = ap names_of_groups (group_is g no_groups)
+pub group_names : (g : Group) → names_of_group g ≡ names_of_stmts (stmts_in g)
+group_names g = ap names_of_groups (group_is g no_groups) ∙ append-nil (names_of_stmts (stmts_in g))
+
+pub groups_names : (gs : List Group) (n : ℕ) (g : Group) → n < length gs → g ≡ get_or gs n g → names_of_groups (groups_of (drop n gs)) ≡ names_of_group g ++ names_of_groups (groups_of (drop (n + 1) gs))
+groups_names gs n g lt is = ap names_of_groups (groups_at gs n g lt is) ∙ ap (λ ns. ns ++ names_of_groups (groups_of (drop (n + 1) gs))) (sym (group_names g))
 
 pub names_past : (next : Next) (g : Group) → past_names next (names_of_group g) ≡ past_names next (names_of_stmts (stmts_in g))
-names_past next g = ap (past_names next) (names_in g ∙ append-nil (names_of_stmts (stmts_in g)))
+names_past next g = ap (past_names next) (group_names g)
 
 module _ (a : Around) (i : IntType) (gs : List Group) (n : ℕ) (g : Group) where
   pub group_more : (env here : Env) (b b' : Before) (next next' : Next) (d new : Labelled) (all : Checked Labelled) → n < length gs → g ≡ get_or gs n g → here ≡ env
@@ -154,25 +150,6 @@ module _ (a : Around) (i : IntType) (gs : List Group) (n : ℕ) (g : Group) wher
       ∙ (sym (past_past b (calls_of_stmts (stmts_in g)) (calls_of_groups rest) (held_by_stmts env next (stmts_in g)) (held_by_groups env (past_names next (names_of_stmts (stmts_in g))) rest))
       ∙ (λ j. past (sym (counted ∙ (λ k. after_stmts (same k) b next (stmts_in g))) j) (calls_of_groups rest) (held_by_groups env (sym (numbered ∙ names_past next g) j) rest))))
 
-  pub group_numbered : (next next' whole : Next) → n < length gs → g ≡ get_or gs n g → whole ≡ past_names next (names_of_groups (groups_of (drop n gs))) → next' ≡ past_names next (names_of_group g)
-      → whole ≡ past_names next' (names_of_groups (groups_of (drop (n + 1) gs)))
-  group_numbered next next' whole lt is before numbered =
-      let rest : Groups = groups_of (drop (n + 1) gs) in
-      before
-      ∙ (ap (λ r. past_names next (names_of_groups r)) (groups_at gs n g lt is)
-      ∙ (names_append next (names_of_stmts (stmts_in g)) (names_of_groups rest) ∙ ap (λ x. past_names x (names_of_groups rest)) (sym (numbered ∙ names_past next g))))
-
-pub groups_end : (env : Env) (a : Around) (b : Before) (next : Next) (i : IntType) (gs : List Group) (n : ℕ) (d : Labelled) (all : Checked Labelled) → length gs ≤ n → all ≡ onto_groups d (groups_of_switch env a b next i (groups_of (drop n gs))) → all ≡ fine d
-groups_end env a b next i gs n d all le before =
-    before ∙ (ap (λ l. onto_groups d (groups_of_switch env a b next i (groups_of l))) (drop_all n gs le) ∙ ap fine (none_behind d))
-
-pub groups_counted_end : (env : Env) (b whole : Before) (next : Next) (gs : List Group) (n : ℕ) → length gs ≤ n → whole ≡ past b (calls_of_groups (groups_of (drop n gs))) (held_by_groups env next (groups_of (drop n gs))) → b ≡ whole
-groups_counted_end env b whole next gs n le before =
-    sym (before ∙ (ap (λ l. past b (calls_of_groups (groups_of l)) (held_by_groups env next (groups_of l))) (drop_all n gs le) ∙ past_none b))
-
 pub groups_start : (r : Checked Labelled) → r ≡ onto_groups no_labelled r
 groups_start (fine q) = refl
 groups_start (faulty g gs) = refl
-
-pub groups_numbered_end : (whole next : Next) (gs : List Group) (n : ℕ) → length gs ≤ n → whole ≡ past_names next (names_of_groups (groups_of (drop n gs))) → next ≡ whole
-groups_numbered_end whole next gs n le before = sym (before ∙ ap (λ l. past_names next (names_of_groups (groups_of l))) (drop_all n gs le))

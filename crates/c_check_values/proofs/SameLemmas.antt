@@ -4,6 +4,7 @@ use Rattle.std.proofs.lemmas.Bool.{eqb-true, eq-eqb}
 use Rattle.c_tree.specs.declared.value.IntType.{IntType}
 use Rattle.c_tree.specs.declared.value.IntType.TheVariants.{Char, Uchar, Int, Uint}
 use Rattle.c_tree.specs.Tree.{CType, void, integer, pointer, array, struct, function, CTypes, no_types, more_types}
+use Rattle.c_check_scopes.specs.Conversions.{has_integer}
 use Rattle.c_check_scopes.specs.Types.{same_integer, same_type, same_types}
 use Rattle.c_check_scopes.proofs.NumberLemmas.{not_so}
 
@@ -80,3 +81,7 @@ told_alike false false f g = refl
 
 pub same_told : (r : Bool) (t u : CType) → IsTrue r ↔ (t ≡ u) → r ≡ same_type t u
 same_told r t u h = told_alike r (same_type t u) (λ p. subst (λ x. same_type t x ≡ true) (h.0 p) (same_self t)) (λ p. h.1 (same_equal t u p))
+
+pub integer_same : (i : IntType) (t : CType) → same_type (integer i) t ≡ has_integer i t
+integer_same i (integer j) = refl
+integer_same i t = refl

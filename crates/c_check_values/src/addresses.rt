@@ -87,8 +87,7 @@ pub fn constant_member(from: u32, cells: u32, c: Constant) -> Constant
     ensures { constant_of result ≡ constant_member from cells (constant_of c) }
 {
     match c {
-        Constant::Not => Constant::Not,
-        Constant::Undefined => Constant::Undefined,
+        Constant::Not | Constant::Undefined => c,
         Constant::Known(value) => match value {
             Value::At(q) => part_of(&q, from, cells, 1),
             _ => Constant::Undefined,
@@ -118,8 +117,7 @@ pub fn constant_decayed(cells: u32, c: Constant) -> Constant
     ensures { constant_of result ≡ constant_decayed cells (constant_of c) }
 {
     match c {
-        Constant::Not => Constant::Not,
-        Constant::Undefined => Constant::Undefined,
+        Constant::Not | Constant::Undefined => c,
         Constant::Known(value) => match value {
             Value::At(q) => first_element(&q, cells),
             _ => Constant::Undefined,
@@ -208,8 +206,7 @@ pub fn constant_moved_on(p: Constant, k: Constant) -> Constant
             _ => Constant::Undefined,
         },
         Constant::Known(value) => match k {
-            Constant::Not => Constant::Not,
-            Constant::Undefined => Constant::Undefined,
+            Constant::Not | Constant::Undefined => k,
             Constant::Known(by) => value_moved(value, number_of(by)),
         },
     }
@@ -234,8 +231,7 @@ pub fn constant_moved_back(p: Constant, k: Constant) -> Constant
             _ => Constant::Undefined,
         },
         Constant::Known(value) => match k {
-            Constant::Not => Constant::Not,
-            Constant::Undefined => Constant::Undefined,
+            Constant::Not | Constant::Undefined => k,
             Constant::Known(by) => value_moved(value, negative(by)),
         },
     }

@@ -1,7 +1,7 @@
 ghost use Rattle.std.specs.Prelude.{◌≡◌, IfOk};
 ghost use Rattle.c_check_values.specs.Agreement.{AgreesWith};
 ghost use Rattle.c_check_values.specs.TypedExpressionView.{typed_expression_of};
-ghost use Rattle.c_check_scopes.specs.Checked.{met};
+ghost use Rattle.c_check_scopes.specs.Checked.{fine, met};
 ghost use Rattle.c_check_scopes.specs.Conversions.{is_defined, complete, valued, null_of, fits, assigned, as_if_assigned, condition};
 ghost use Rattle.c_check_scopes.specs.Scopes.{struct_of};
 ghost use Rattle.c_check_scopes.specs.View.{env_of};
@@ -33,9 +33,8 @@ pub fn complete(env: &Environment<'_>, at: u32, t: &CType) -> Result<(), CheckEr
     ensures { AgreesWith (λ _. met) result (complete (env_of env.now) at (ctype_of t.now)) }
 {
     match t {
-        CType::Void => Err(CheckError::At(C3, at)),
-        CType::Int(_) => Ok(()),
-        CType::Pointer(_) => Ok(()),
+        CType::Void | CType::Function(_, _) => Err(CheckError::At(C3, at)),
+        CType::Int(_) | CType::Pointer(_) => Ok(()),
         CType::Array(_, n) => {
             if *n == 0 {
                 return Err(CheckError::At(C3, at));
@@ -43,8 +42,14 @@ pub fn complete(env: &Environment<'_>, at: u32, t: &CType) -> Result<(), CheckEr
             Ok(())
         }
         CType::Struct(s) => is_defined(env, at, *s),
-        CType::Function(_, _) => Err(CheckError::At(C3, at)),
     }
+}
+
+// What an expression gives, which only wants memory.
+fn answered(one: Result<TypedExpression, OutOfMemory>) -> Result<TypedExpression, CheckError>
+    ensures { (g : Rattle.c_check_scopes.specs.TypedExpression.TypedExpression) → IfOk one (λ r. typed_expression_of r ≡ g) → AgreesWith typed_expression_of result (fine g) }
+{
+    Ok(one?)
 }
 
 /// What gives a value where a value is asked (C99 6.3.2.1): a scalar place its value, an array a pointer to its first
@@ -58,12 +63,10 @@ pub fn valued(
     ensures { AgreesWith typed_expression_of result (valued (env_of env.now) at (typed_expression_of g)) }
 {
     match &g.ctype {
-        CType::Void => Ok(loaded(alloc, g)?),
-        CType::Int(_) => Ok(loaded(alloc, g)?),
-        CType::Pointer(_) => Ok(loaded(alloc, g)?),
+        CType::Void | CType::Int(_) | CType::Pointer(_) => answered(loaded(alloc, g)),
         CType::Array(element, _) => {
             let element = copy_type(alloc, element)?;
-            Ok(decayed_array(alloc, env, element, g)?)
+            answered(decayed_array(alloc, env, element, g))
         }
         CType::Struct(_) => Err(CheckError::At(C3, at)),
         CType::Function(_, _) => {
@@ -71,7 +74,7 @@ pub fn valued(
             if !few_parts(&pointer) {
                 return Err(CheckError::At(C13, at));
             }
-            Ok(decayed_function(alloc, pointer, g)?)
+            answered(decayed_function(alloc, pointer, g))
         }
     }
 }
@@ -125,7 +128,7 @@ pub fn as_if_assigned(
     if !fits(t, &g) {
         return Err(CheckError::At(C3, at));
     }
-    Ok(assigned(alloc, t, g)?)
+    answered(assigned(alloc, t, g))
 }
 
 /// A condition, which is a scalar (C99 6.8.4.1 paragraph 1, 6.8.5 paragraph 2).

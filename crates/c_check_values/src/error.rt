@@ -2,7 +2,7 @@ use dm_base::OutOfMemory;
 use std::alloc::{AllocError, AllocFailed};
 
 /// Why a unit isn't typed.
-#[derive(Clone, Copy, Debug, PartialEq, Eq)]
+#[derive(Clone, Copy)]
 pub enum CheckError {
     /// Memory was refused.
     OutOfMemory,

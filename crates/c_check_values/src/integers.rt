@@ -6,6 +6,7 @@ ghost use Rattle.c_tree.specs.View.{ctype_of};
 
 use crate::operators::constant_converted;
 use crate::typed_expression::{TypedExpression, typed_value};
+use crate::types::same_type;
 use c_tree::{CType, IntType, TExprKind};
 use dm_base::OutOfMemory;
 use std::alloc::Global;
@@ -34,27 +35,7 @@ pub fn common(i: IntType, j: IntType) -> IntType
 fn has_integer(i: IntType, t: &CType) -> bool
     ensures { result ≡ has_integer i (ctype_of t.now) }
 {
-    match t {
-        CType::Int(j) => match i {
-            IntType::Char => match j {
-                IntType::Char => true,
-                _ => false,
-            },
-            IntType::Uchar => match j {
-                IntType::Uchar => true,
-                _ => false,
-            },
-            IntType::Int => match j {
-                IntType::Int => true,
-                _ => false,
-            },
-            IntType::Uint => match j {
-                IntType::Uint => true,
-                _ => false,
-            },
-        },
-        _ => false,
-    }
+    same_type(&CType::Int(i), t)
 }
 
 /// An integer converted to an integer type, also where it has that type (C99 6.3.1.3).

@@ -53,10 +53,9 @@ fn value_converted(to: IntType, value: Value) -> Constant
     ensures { constant_of result ≡ answered (convert to value) }
 {
     match value {
-        Value::Int(_) => Constant::Known(c_values::convert(value, to)),
-        Value::Uint(_) => Constant::Known(c_values::convert(value, to)),
-        Value::Char(_) => Constant::Known(c_values::convert(value, to)),
-        Value::Uchar(_) => Constant::Known(c_values::convert(value, to)),
+        Value::Int(_) | Value::Uint(_) | Value::Char(_) | Value::Uchar(_) => {
+            Constant::Known(c_values::convert(value, to))
+        }
         _ => Constant::Undefined,
     }
 }
@@ -67,8 +66,7 @@ pub fn constant_converted(to: IntType, c: Constant) -> Constant
 {
     match c {
         Constant::Known(value) => value_converted(to, value),
-        Constant::Not => Constant::Not,
-        Constant::Undefined => Constant::Undefined,
+        Constant::Not | Constant::Undefined => c,
     }
 }
 
@@ -78,20 +76,13 @@ fn value_unary(op: UnOp, value: Value) -> Constant
 {
     match op {
         UnOp::Not => match value {
-            Value::Int(_) => answered(c_values::unary(UnOp::Not, value)),
-            Value::Uint(_) => answered(c_values::unary(UnOp::Not, value)),
-            Value::Char(_) => answered(c_values::unary(UnOp::Not, value)),
-            Value::Uchar(_) => answered(c_values::unary(UnOp::Not, value)),
+            Value::Int(_) | Value::Uint(_) | Value::Char(_) | Value::Uchar(_) => {
+                answered(c_values::unary(UnOp::Not, value))
+            }
             _ => Constant::Undefined,
         },
-        UnOp::Minus => match value {
-            Value::Int(_) => answered(c_values::unary(UnOp::Minus, value)),
-            Value::Uint(_) => answered(c_values::unary(UnOp::Minus, value)),
-            _ => Constant::Undefined,
-        },
-        UnOp::Complement => match value {
-            Value::Int(_) => answered(c_values::unary(UnOp::Complement, value)),
-            Value::Uint(_) => answered(c_values::unary(UnOp::Complement, value)),
+        UnOp::Minus | UnOp::Complement => match value {
+            Value::Int(_) | Value::Uint(_) => answered(c_values::unary(op, value)),
             _ => Constant::Undefined,
         },
     }
@@ -103,8 +94,7 @@ pub fn constant_unary(op: UnOp, c: Constant) -> Constant
 {
     match c {
         Constant::Known(value) => value_unary(op, value),
-        Constant::Not => Constant::Not,
-        Constant::Undefined => Constant::Undefined,
+        Constant::Not | Constant::Undefined => c,
     }
 }
 
@@ -161,8 +151,7 @@ pub fn constant_binary(op: BinOp, a: Constant, b: Constant) -> Constant
             _ => Constant::Undefined,
         },
         Constant::Known(left) => match b {
-            Constant::Not => Constant::Not,
-            Constant::Undefined => Constant::Undefined,
+            Constant::Not | Constant::Undefined => b,
             Constant::Known(right) => value_binary(op, left, right),
         },
     }
@@ -173,8 +162,7 @@ fn constant_truth(c: Constant) -> Constant
     ensures { constant_of result ≡ constant_truth (constant_of c) }
 {
     match c {
-        Constant::Not => Constant::Not,
-        Constant::Undefined => Constant::Undefined,
+        Constant::Not | Constant::Undefined => c,
         Constant::Known(value) => truth(!is_zero(value)),
     }
 }
@@ -231,8 +219,7 @@ fn chosen(c: Constant, a: Constant, b: Constant) -> Constant
     ensures { constant_of result ≡ constant_conditional (constant_of c) (constant_of a) (constant_of b) }
 {
     match c {
-        Constant::Not => Constant::Not,
-        Constant::Undefined => Constant::Undefined,
+        Constant::Not | Constant::Undefined => c,
         Constant::Known(value) => { if is_zero(value) { b } else { a } }
     }
 }

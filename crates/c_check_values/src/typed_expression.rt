@@ -20,7 +20,7 @@ pub enum Form {
 }
 
 /// Whether an expression is constant by its form (C99 6.6), and then its value.
-#[derive(Clone, Copy, Debug, PartialEq, Eq)]
+#[derive(Clone, Copy)]
 pub enum Constant {
     /// It is not constant.
     Not,

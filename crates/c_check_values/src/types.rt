@@ -43,8 +43,7 @@ pub fn is_scalar(t: &CType) -> bool
     ensures { result ≡ is_scalar (ctype_of t.now) }
 {
     match t {
-        CType::Int(_) => true,
-        CType::Pointer(_) => true,
+        CType::Int(_) | CType::Pointer(_) => true,
         _ => false,
     }
 }
@@ -54,9 +53,7 @@ pub fn is_result(t: &CType) -> bool
     ensures { result ≡ is_result (ctype_of t.now) }
 {
     match t {
-        CType::Void => true,
-        CType::Int(_) => true,
-        CType::Pointer(_) => true,
+        CType::Void | CType::Int(_) | CType::Pointer(_) => true,
         _ => false,
     }
 }
@@ -75,9 +72,7 @@ fn left_of(t: &CType, most: u32) -> Option<u32>
     ensures none { IfNone result (most < parts (ctype_of t.now)) }
 {
     match t {
-        CType::Void => Some(most),
-        CType::Int(_) => Some(most),
-        CType::Struct(_) => Some(most),
+        CType::Void | CType::Int(_) | CType::Struct(_) => Some(most),
         CType::Pointer(u) => left_of(u, most.checked_sub(1)?),
         CType::Array(u, _) => left_of(u, most.checked_sub(1)?),
         CType::Function(u, ts) => {

@@ -1,11 +1,10 @@
 -- A bad result is one of the recorded results: so many were taken, and so many are left.
-use Rattle.std.proofs.Common.{◌≡◌, ℕ, zero, suc, ◌+◌, ◌≤◌, Bool, true, false, if◌then◌else◌, List, [], ◌∷◌, length, subst, refl, arith}
+use Rattle.std.proofs.Common.{◌≡◌, ℕ, zero, suc, ◌+◌, ◌≤◌, true, List, [], ◌∷◌, length, subst, refl, arith}
 use Rattle.dm_base.specs.declared.event.Event.{Event}
 use Rattle.dm_base.specs.declared.event.Event.TheVariants.{Sys}
 use Rattle.dm_base.specs.declared.outcome.Outcome.{Outcome}
 use Rattle.dm_base.specs.declared.outcome.Outcome.TheVariants.{BadResult}
 use Rattle.sys_table.specs.declared.sys_result.SysResult.{SysResult}
-use Rattle.sys_table.specs.Table.{result_of}
 use Rattle.c_tree.specs.declared.value.Value.{Value}
 use Rattle.c_tree.specs.declared.value.Value.TheVariants.{Int, Uint}
 use Rattle.c_values.specs.Answers.{Answer, gives, undefined}
@@ -13,8 +12,9 @@ use Rattle.c_values.specs.Memory.{Objects}
 use Rattle.c_meaning.specs.Results.{State, Result, Go, Stop, after, then_do, spend_at, remembered}
 use Rattle.c_meaning.specs.Meaning.{Marks, null_call}
 use Rattle.c_meaning.specs.Runs.{ending, exit_of, enter, world, beginning, run_with}
-use Rattle.c_meaning.specs.SystemCalls.{Request, take_record, does_answer, with_records, filled_where, result_value}
+use Rattle.c_meaning.specs.SystemCalls.{Request, take_record, does_answer, with_records, filled_where}
 use Rattle.c_meaning.specs.BadResults.{BadResultsAreRecorded}
+use Rattle.c_meaning.proofs.Lists.{if_has}
 use Rattle.c_meaning.proofs.TwoRuns.{Relates, runs_related}
 
 module _ (n : ℕ) where
@@ -53,14 +53,8 @@ module _ (n : ℕ) where
 
   taking : (x : ℕ) (q : Request) (rs : List SysResult) (st : State) → st.taken + length rs ≡ n → Keeps {A = Value} (take_record x q rs st)
   taking x q [] st i = tt
-  taking x q (r ∷ rs) st i = at (does_answer x q.asked r)
-    where
-      next : Value
-      next = result_value (result_of x) r.value
-
-      at : (b : Bool) → Keeps {A = Value} (if b then after (Sys x q.arguments r.value ∷ []) (remembered (filled_where q.buffer r.bytes st.memory) next (with_records st rs)) else Stop (BadResult (suc st.taken)) [])
-      at true = stored (Sys x q.arguments r.value ∷ []) (filled_where q.buffer r.bytes st.memory) next (with_records st rs) (omega (arith, i))
-      at false = (omega arith, omega (arith, i))
+  taking x q (r ∷ rs) st i =
+      if_has {A = Result Value} (λ z. Keeps {A = Value} z) (does_answer x q.asked r) _ _ (λ e. stored (Sys x q.arguments r.value ∷ []) (filled_where q.buffer r.bytes st.memory) _ (with_records st rs) (omega (arith, i))) (λ e. (omega arith, omega (arith, i)))
 
   kept : (marks : Marks) → Relates marks marks (λ rs. rs) (λ k. k) Counts Counts ⊥ (λ A r q. Keeps {A = A} r)
   kept marks = record {
@@ -90,5 +84,4 @@ module _ (n : ℕ) where
 pub bad_results_are_recorded : BadResultsAreRecorded
 bad_results_are_recorded p marks records turns k e =
     let counts = kept (length records) marks in
-    let I = Counts (length records) in
-    named (length records) ((run_with p marks records turns).outcome) k e (finished (length records) (enter p (world p marks turns) marks true p.main [] (beginning p records turns)) (runs_related p marks marks (λ rs. rs) (λ k. k) I I ⊥ _ counts (λ no. absurd no) (λ st i. i) (λ k. refl) (record { enter = λ wanted f vs st i. tt; again = λ fr l h st i. tt }) records turns (omega arith)))
+    named (length records) ((run_with p marks records turns).outcome) k e (finished (length records) (enter p (world p marks turns) marks true p.main [] (beginning p records turns)) (runs_related p counts (λ no. absurd no) (λ st i. i) (λ k. refl) (record { enter = λ wanted f vs. record { at = λ st i. tt }; again = λ fr l h. record { at = λ st i. tt } }) records turns (omega arith)))

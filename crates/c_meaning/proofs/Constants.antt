@@ -24,7 +24,7 @@ use Rattle.c_tree.specs.Tree.{Expr, constant, unary_operation, conversion, arith
 use Rattle.c_tree.specs.Tree.{Exprs, no_exprs, more_exprs}
 use Rattle.c_tree.specs.Functions.{int, unsigned_int, char_pointer, sys_types}
 use Rattle.c_tree.specs.Operands.{FitsUnary}
-use Rattle.c_tree.specs.Operators.{Answer, gives, undefined, and_then, truth, convert, unary, binary, low_bits}
+use Rattle.c_tree.specs.Operators.{Answer, gives, undefined, truth, convert, unary, binary, low_bits}
 use Rattle.c_tree.specs.OperatorTypes.{IsAnswer, IsGiven}
 use Rattle.c_tree.specs.Kinds.{IsConstant}
 use Rattle.c_tree.specs.Program.{IsProgram}
@@ -41,20 +41,8 @@ use Rattle.c_meaning.specs.Meaning.{Marks, Frame, World, eval, operated}
 use Rattle.c_meaning.specs.Pointers.{truth_value, is_not_zero, number}
 use Rattle.c_meaning.specs.Results.{State, Go, after, then_do, answered}
 use Rattle.c_meaning.specs.SystemCalls.{Request, argument, arguments, room_for, bytes_of_buffer, read_request, write_request, request, size}
+use Rattle.c_meaning.proofs.Together.{Whenever, whenever_then, any_whenever}
 use Rattle.c_meaning.proofs.Lists.{and_left, and_right, same_some, no_some}
-
--- what a step gives is so
-abbrev IfGives : {A : Type 0} → (A → Type 0) → Answer A → Type 0
-IfGives P (gives a) = P a
-IfGives P (undefined kind) = Unit {0}
-
-if_any : {A : Type 0} (P : A → Type 0) (x : Answer A) → ((a : A) → P a) → IfGives P x
-if_any P (gives a) h = h a
-if_any P (undefined kind) h = tt
-
-if_then : {A B : Type 0} (P : A → Type 0) (Q : B → Type 0) (x : Answer A) (f : A → Answer B) → IfGives P x → ((a : A) → P a → IfGives Q (f a)) → IfGives Q (and_then x f)
-if_then P Q (gives a) f h k = k a h
-if_then P Q (undefined kind) f h k = tt
 
 given_is : {A : Type 0} (x : Answer A) (a : A) → given x ≡ Some a → x ≡ gives a
 given_is (gives b) a e = ap gives (same_some b a e)
@@ -152,11 +140,11 @@ fit_first (Some n) pattern a rest h k = (h, k)
 abbrev IsOf : Option Value → CType → Value → Type 0
 IsOf o t v = (y : Value) → o ≡ Some y → (v ≡ y) × IsConstant t y
 
-if_map : {A : Type 0} (P Q : A → Type 0) (x : Answer A) → IfGives P x → ((a : A) → P a → Q a) → IfGives Q x
+if_map : {A : Type 0} (P Q : A → Type 0) (x : Answer A) → Whenever P x → ((a : A) → P a → Q a) → Whenever Q x
 if_map P Q (gives a) h k = k a h
 if_map P Q (undefined kind) h k = tt
 
-signed_at : {A : Type 0} (as_arg : A → Arg) (read : Value → Answer A) → ((z : ℤ) → IfGives (λ a. as_arg a ≡ args.Int z) (read (Int z))) → (y : Value) → IsConstant int y → IfGives (λ a. EntryFits (number_in (given (convert i.Int y))) (as_arg a)) (read y)
+signed_at : {A : Type 0} (as_arg : A → Arg) (read : Value → Answer A) → ((z : ℤ) → Whenever (λ a. as_arg a ≡ args.Int z) (read (Int z))) → (y : Value) → IsConstant int y → Whenever (λ a. EntryFits (number_in (given (convert i.Int y))) (as_arg a)) (read y)
 signed_at {A = A} as_arg read is (Int z) h =
     if_map {A = A} (λ a. as_arg a ≡ args.Int z) (λ a. IsNumber (int_wrap w32 z) (as_arg a)) (read (Int z)) (is z) (λ a e. subst (λ b. IsNumber (int_wrap w32 z) b) (sym e) (sym (int_wrap_fits w32 z h.1)))
 signed_at as_arg read is y h = absurd (grind (arith, h))
@@ -164,17 +152,17 @@ signed_at as_arg read is y h = absurd (grind (arith, h))
 low_bits_same : (n : ℕ) → n < 4294967296 → pos n ≡ pos (low_bits 32 (pos n))
 low_bits_same n h = grind (arith, ints, h)
 
-unsigned_at : {A : Type 0} (as_arg : A → Arg) (read : Value → Answer A) → ((n : ℕ) → IfGives (λ a. as_arg a ≡ args.Int (pos n)) (read (Uint n))) → (y : Value) → IsConstant unsigned_int y → IfGives (λ a. EntryFits (number_in (given (convert i.Uint y))) (as_arg a)) (read y)
+unsigned_at : {A : Type 0} (as_arg : A → Arg) (read : Value → Answer A) → ((n : ℕ) → Whenever (λ a. as_arg a ≡ args.Int (pos n)) (read (Uint n))) → (y : Value) → IsConstant unsigned_int y → Whenever (λ a. EntryFits (number_in (given (convert i.Uint y))) (as_arg a)) (read y)
 unsigned_at {A = A} as_arg read is (Uint n) h =
     if_map {A = A} (λ a. as_arg a ≡ args.Int (pos n)) (λ a. IsNumber (pos (low_bits 32 (pos n))) (as_arg a)) (read (Uint n)) (is n) (λ a e. subst (λ b. IsNumber (pos (low_bits 32 (pos n))) b) (sym e) (low_bits_same n h.1))
 unsigned_at as_arg read is y h = absurd (grind (arith, h))
 
 -- an entry that is no number, or that of a constant
-at_constant : {A : Type 0} (to : IntType) (as_arg : A → Arg) (read : Value → Answer A) (o : Option Value) (v : Value) → IsOf o (integer to) v → ((y : Value) → IsConstant (integer to) y → IfGives (λ a. EntryFits (number_in (given (convert to y))) (as_arg a)) (read y)) → IfGives (λ a. EntryFits (number_in (given_of o (convert to))) (as_arg a)) (read v)
-at_constant {A = A} to as_arg read None v h k = if_any {A = A} (λ a. Unit {0}) (read v) (λ a. tt)
+at_constant : {A : Type 0} (to : IntType) (as_arg : A → Arg) (read : Value → Answer A) (o : Option Value) (v : Value) → IsOf o (integer to) v → ((y : Value) → IsConstant (integer to) y → Whenever (λ a. EntryFits (number_in (given (convert to y))) (as_arg a)) (read y)) → Whenever (λ a. EntryFits (number_in (given_of o (convert to))) (as_arg a)) (read v)
+at_constant {A = A} to as_arg read None v h k = any_whenever {A = A} (read v)
 at_constant to as_arg read (Some y) v h k =
     let r = h y refl in
-    subst (λ v. IfGives (λ a. EntryFits (number_in (given (convert to y))) (as_arg a)) (read v)) (sym r.0) (k y r.1)
+    subst (λ v. Whenever (λ a. EntryFits (number_in (given (convert to y))) (as_arg a)) (read v)) (sym r.0) (k y r.1)
 
 -- the kind of a recorded argument is that of the parameter's type
 abbrev kind_is : ArgKind → CType → Bool
@@ -182,12 +170,12 @@ kind_is Signed t = same_type t int
 kind_is Unsigned t = same_type t unsigned_int
 kind_is Bytes t = true
 
-entry_fits : (m : Objects) (kind : ArgKind) (t : CType) (e : Expr) (v : Value) → kind_is kind t ≡ true → IsOf (constant_value e) t v → IfGives (λ a. EntryFits (entry kind e) a) (argument m v)
+entry_fits : (m : Objects) (kind : ArgKind) (t : CType) (e : Expr) (v : Value) → kind_is kind t ≡ true → IsOf (constant_value e) t v → Whenever (λ a. EntryFits (entry kind e) a) (argument m v)
 entry_fits m Signed t e v k h =
     at_constant {A = Arg} i.Int (λ a. a) (argument m) (constant_value e) v (subst (λ t. IsOf (constant_value e) t v) ((types_tell t int).0 k) h) (signed_at {A = Arg} (λ a. a) (argument m) (λ z. refl))
 entry_fits m Unsigned t e v k h =
     at_constant {A = Arg} i.Uint (λ a. a) (argument m) (constant_value e) v (subst (λ t. IsOf (constant_value e) t v) ((types_tell t unsigned_int).0 k) h) (unsigned_at {A = Arg} (λ a. a) (argument m) (λ n. refl))
-entry_fits m Bytes t e v k h = if_any {A = Arg} (λ a. Unit {0}) (argument m v) (λ a. tt)
+entry_fits m Bytes t e v k h = any_whenever {A = Arg} (argument m v)
 
 -- the values of arguments: those of the constant ones are told
 abbrev pub AreConstants : Exprs → List Value → Type 0
@@ -203,31 +191,31 @@ module _ (p : Program) (n : ℕ) (right : IsProgram p n) (vars : List CType) (m 
   is_of : (e : Expr) (t : CType) (v : Value) → type_of e ≡ t → IsValue p vars e → ((y : Value) → constant_value e ≡ Some y → v ≡ y) → IsOf (constant_value e) t v
   is_of e t v h k is = λ y q. (is y q, subst (λ t. IsConstant t y) h (constant_typed p n right vars m e y k q))
 
-  args_fit : (kinds : List ArgKind) (ts : CTypes) (es : Exprs) (vs : List Value) → kinds_are kinds ts ≡ true → AreArguments p vars ts es → AreConstants es vs → IfGives (λ rest. FitArguments (entries kinds es) rest) (arguments m vs)
-  args_fit [] ts es vs r h k = if_any {A = List Arg} (λ rest. Unit {0}) (arguments m vs) (λ rest. tt)
+  args_fit : (kinds : List ArgKind) (ts : CTypes) (es : Exprs) (vs : List Value) → kinds_are kinds ts ≡ true → AreArguments p vars ts es → AreConstants es vs → Whenever (λ rest. FitArguments (entries kinds es) rest) (arguments m vs)
+  args_fit [] ts es vs r h k = any_whenever {A = List Arg} (arguments m vs)
   args_fit (kind ∷ kinds) ts no_exprs [] r h k = tt
   args_fit (kind ∷ kinds) no_types (more_exprs e es) vs r h k = absurd h
   args_fit (kind ∷ kinds) (more_types t ts) (more_exprs e es) (v ∷ vs) r h k =
-      if_then {A = Arg} {B = List Arg} (λ a. EntryFits (entry kind e) a) (λ rest. FitArguments (entry kind e ∷ entries kinds es) rest) (argument m v) _ (entry_fits m kind t e v (and_left (kind_is kind t) (kinds_are kinds ts) r) (is_of e t v h.0 h.1 k.0)) (λ a j.
-      if_then {A = List Arg} {B = List Arg} (λ rest. FitArguments (entries kinds es) rest) (λ rest. FitArguments (entry kind e ∷ entries kinds es) rest) (arguments m vs) _ (args_fit kinds ts es vs (and_right (kind_is kind t) (kinds_are kinds ts) r) h.2 k.1) (λ rest l. fit_first (entry kind e) (entries kinds es) a rest j l))
+      whenever_then {A = Arg} {B = List Arg} (λ a. EntryFits (entry kind e) a) (λ rest. FitArguments (entry kind e ∷ entries kinds es) rest) (argument m v) _ (entry_fits m kind t e v (and_left (kind_is kind t) (kinds_are kinds ts) r) (is_of e t v h.0 h.1 k.0)) (λ a j.
+      whenever_then {A = List Arg} {B = List Arg} (λ rest. FitArguments (entries kinds es) rest) (λ rest. FitArguments (entry kind e ∷ entries kinds es) rest) (arguments m vs) _ (args_fit kinds ts es vs (and_right (kind_is kind t) (kinds_are kinds ts) r) h.2 k.1) (λ rest l. fit_first (entry kind e) (entries kinds es) a rest j l))
   args_fit (kind ∷ kinds) ts es vs r h k = absurd k
 
   -- the request fits a pattern
   abbrev RequestFits : List (Option ℤ) → Answer Request → Type 0
-  RequestFits pattern x = IfGives (λ (q : Request). FitArguments pattern q.arguments) x
+  RequestFits pattern x = Whenever (λ (q : Request). FitArguments pattern q.arguments) x
 
   read_fits : (fd buf n : Expr) (a b c : Value) → IsOf (constant_value fd) int a → IsOf (constant_value n) unsigned_int c → RequestFits (entry Signed fd ∷ entry Unsigned n ∷ []) (read_request m a b c)
   read_fits fd buf n a b c h k =
-      if_then {A = ℤ} {B = Request} (λ z. EntryFits (entry Signed fd) (args.Int z)) (λ q. FitArguments (entry Signed fd ∷ entry Unsigned n ∷ []) q.arguments) (number a) _ (at_constant {A = ℤ} i.Int (λ z. args.Int z) number (constant_value fd) a h (signed_at {A = ℤ} (λ z. args.Int z) number (λ z. refl))) (λ z j.
-      if_then {A = ℕ} {B = Request} (λ s. EntryFits (entry Unsigned n) (args.Int (pos s))) (λ q. FitArguments (entry Signed fd ∷ entry Unsigned n ∷ []) q.arguments) (size c) _ (at_constant {A = ℕ} i.Uint (λ s. args.Int (pos s)) size (constant_value n) c k (unsigned_at {A = ℕ} (λ s. args.Int (pos s)) size (λ s. refl))) (λ s l.
-      if_then {A = Option Pointer} {B = Request} (λ room. Unit {0}) (λ q. FitArguments (entry Signed fd ∷ entry Unsigned n ∷ []) q.arguments) (room_for m b s) _ (if_any {A = Option Pointer} (λ room. Unit {0}) (room_for m b s) (λ room. tt)) (λ room o.
+      whenever_then {A = ℤ} {B = Request} (λ z. EntryFits (entry Signed fd) (args.Int z)) (λ q. FitArguments (entry Signed fd ∷ entry Unsigned n ∷ []) q.arguments) (number a) _ (at_constant {A = ℤ} i.Int (λ z. args.Int z) number (constant_value fd) a h (signed_at {A = ℤ} (λ z. args.Int z) number (λ z. refl))) (λ z j.
+      whenever_then {A = ℕ} {B = Request} (λ s. EntryFits (entry Unsigned n) (args.Int (pos s))) (λ q. FitArguments (entry Signed fd ∷ entry Unsigned n ∷ []) q.arguments) (size c) _ (at_constant {A = ℕ} i.Uint (λ s. args.Int (pos s)) size (constant_value n) c k (unsigned_at {A = ℕ} (λ s. args.Int (pos s)) size (λ s. refl))) (λ s l.
+      whenever_then {A = Option Pointer} {B = Request} (λ room. Unit {0}) (λ q. FitArguments (entry Signed fd ∷ entry Unsigned n ∷ []) q.arguments) (room_for m b s) _ (any_whenever {A = Option Pointer} (room_for m b s)) (λ room o.
       fit_first (entry Signed fd) (entry Unsigned n ∷ []) (args.Int z) (args.Int (pos s) ∷ []) j (fit_first (entry Unsigned n) [] (args.Int (pos s)) [] l tt))))
 
   write_fits : (fd : Expr) (a b c : Value) → IsOf (constant_value fd) int a → RequestFits (entry Signed fd ∷ None ∷ []) (write_request m a b c)
   write_fits fd a b c h =
-      if_then {A = ℤ} {B = Request} (λ z. EntryFits (entry Signed fd) (args.Int z)) (λ q. FitArguments (entry Signed fd ∷ None ∷ []) q.arguments) (number a) _ (at_constant {A = ℤ} i.Int (λ z. args.Int z) number (constant_value fd) a h (signed_at {A = ℤ} (λ z. args.Int z) number (λ z. refl))) (λ z j.
-      if_then {A = ℕ} {B = Request} (λ s. Unit {0}) (λ q. FitArguments (entry Signed fd ∷ None ∷ []) q.arguments) (size c) _ (if_any {A = ℕ} (λ s. Unit {0}) (size c) (λ s. tt)) (λ s l.
-      if_then {A = List ℕ} {B = Request} (λ bytes. Unit {0}) (λ q. FitArguments (entry Signed fd ∷ None ∷ []) q.arguments) (bytes_of_buffer m b s) _ (if_any {A = List ℕ} (λ bytes. Unit {0}) (bytes_of_buffer m b s) (λ bytes. tt)) (λ bytes o.
+      whenever_then {A = ℤ} {B = Request} (λ z. EntryFits (entry Signed fd) (args.Int z)) (λ q. FitArguments (entry Signed fd ∷ None ∷ []) q.arguments) (number a) _ (at_constant {A = ℤ} i.Int (λ z. args.Int z) number (constant_value fd) a h (signed_at {A = ℤ} (λ z. args.Int z) number (λ z. refl))) (λ z j.
+      whenever_then {A = ℕ} {B = Request} (λ s. Unit {0}) (λ q. FitArguments (entry Signed fd ∷ None ∷ []) q.arguments) (size c) _ (any_whenever {A = ℕ} (size c)) (λ s l.
+      whenever_then {A = List ℕ} {B = Request} (λ bytes. Unit {0}) (λ q. FitArguments (entry Signed fd ∷ None ∷ []) q.arguments) (bytes_of_buffer m b s) _ (any_whenever {A = List ℕ} (bytes_of_buffer m b s)) (λ bytes o.
       fit_first (entry Signed fd) (None ∷ []) (args.Int z) (args.Bytes bytes ∷ []) j tt)))
 
   -- the first of the arguments with its value, and the others
@@ -294,4 +282,4 @@ request_fits p n right vars m x t ts es vs e h k q is = subst (λ a. RequestFits
     at zero e = (read_three p n right vars m es vs (subst (λ ts. AreArguments p vars ts es) (sym (read_types t ts e)) h) k)
     at (suc zero) e = (write_three p n right vars m es vs (subst (λ ts. AreArguments p vars ts es) (sym (write_types t ts e)) h) k)
     at (suc (suc x)) e =
-        if_then {A = List Arg} {B = Request} (λ rest. FitArguments (pattern_of (suc (suc x)) es) rest) (λ q. FitArguments (pattern_of (suc (suc x)) es) q.arguments) (arguments m vs) _ (args_fit p n right vars m (recorded_of (suc (suc x))) ts es vs (kinds_right x t ts e) h k) (λ rest j. j)
+        whenever_then {A = List Arg} {B = Request} (λ rest. FitArguments (pattern_of (suc (suc x)) es) rest) (λ q. FitArguments (pattern_of (suc (suc x)) es) q.arguments) (arguments m vs) _ (args_fit p n right vars m (recorded_of (suc (suc x))) ts es vs (kinds_right x t ts e) h k) (λ rest j. j)

@@ -4,6 +4,7 @@ use Rattle.dm_base.specs.declared.event.Event.{Event}
 use Rattle.c_meaning.specs.Shape.{Shape, Shapes, Call, Loop, Do, Parts, End, Part, Leave, goes_on}
 use Rattle.c_meaning.specs.Words.{Marks, brackets, no_brackets, Whole, Rounds, Again, Falls, Picks, Front, FrontFalls, FrontPicks}
 use Rattle.c_meaning.specs.Words as F
+use Rattle.c_meaning.proofs.Joining.{whole_to, rounds_to, agains_to}
 
 -- u is what is left of t
 pub data Rest : List Event → List Event → Type 0 where
@@ -17,10 +18,6 @@ long (later r) = let k = long r in omega (arith, k)
 only : {t u : List Event} → Rest t u → Rest u t → u ≡ t
 only here s = refl
 only (later r) s = let k = long r in let i = long s in absurd (omega (arith, k, i))
-
-trans : {t u v : List Event} → Rest t u → Rest u v → Rest t v
-trans here s = s
-trans (later r) s = later (trans r s)
 
 pub past : (a u : List Event) → Rest (a ++ u) u
 past [] u = here
@@ -57,41 +54,14 @@ pub short_no_brackets : IsShort no_brackets
 short_no_brackets = record { pre = λ s t u z e r. inr (told (sym e) r); post = λ s t u z e r. inr (told (sym e) r) }
 
 module _ (env : Shapes) (m : Marks) where
-  mutual
-    read : {S : Shape} {x : Leave} {t u : List Event} → Whole env m S x t u → Rest t u
-    read (F.sys h) = later here
-    read (F.call {s = s} {u = u} {w = w} k e h d i) = told e (trans (past (m.pre s) u) (trans (read h) (told i (past (m.post s) w))))
-    read (F.left h0) = read h0
-    read (F.right h0) = read h0
-    read (F.loop_end h0 h1) = trans (read_rounds h0) (read h1)
-    read (F.loop_break h0 h1 h2) = trans (read_rounds h0) (trans (read h1) (read h2))
-    read (F.loop_return h0 h1 h2) = trans (read_rounds h0) (trans (read h1) (read h2))
-    read (F.do_end h0 h1 h2 h3) = trans (read_agains h0) (trans (read h2) (read h3))
-    read (F.do_break h0 h1) = trans (read_agains h0) (read h1)
-    read (F.do_return h0 h1) = trans (read_agains h0) (read h1)
-    read (F.in_order h0) = read_parts h0
-    read (F.cases_end h0) = read_picks h0
-    read (F.cases_break h0) = read_picks h0
-    read (F.cases_continue h0) = read_picks h0
-    read (F.cases_return h0) = read_picks h0
-    read a = here
+  read : {S : Shape} {x : Leave} {t u : List Event} → Whole env m S x t u → Rest t u
+  read {u = u} h = let r = whole_to env m h in told r.1 (past r.0 u)
 
-    read_rounds : {C B P : Shape} {t u : List Event} → Rounds env m C B P t u → Rest t u
-    read_rounds F.none = here
-    read_rounds (F.round h0 h1 h2 h3 h4) = trans (read_rounds h0) (trans (read h1) (trans (read h3) (read h4)))
+  read_rounds : {C B P : Shape} {t u : List Event} → Rounds env m C B P t u → Rest t u
+  read_rounds {u = u} h = let r = rounds_to env m h in told r.1 (past r.0 u)
 
-    read_agains : {B C : Shape} {t u : List Event} → Again env m B C t u → Rest t u
-    read_agains F.first = here
-    read_agains (F.again h0 h1 h2 h3) = trans (read_agains h0) (trans (read h2) (read h3))
-
-    read_parts : {ps : Parts} {x : Leave} {t u : List Event} → Falls env m ps x t u → Rest t u
-    read_parts F.ended = here
-    read_parts (F.falls_on h0 h1) = trans (read h0) (read_parts h1)
-    read_parts (F.falls_away h0 h1) = read h1
-
-    read_picks : {ps : Parts} {x : Leave} {t u : List Event} → Picks env m ps x t u → Rest t u
-    read_picks (F.this h0) = read_parts h0
-    read_picks (F.later h0) = read_picks h0
+  read_agains : {B C : Shape} {t u : List Event} → Again env m B C t u → Rest t u
+  read_agains {u = u} h = let r = agains_to env m h in told r.1 (past r.0 u)
 
   -- a front of the parts, or nothing of none
   abbrev Begun : Parts → List Event → List Event → Type 0
@@ -108,14 +78,9 @@ module _ (env : Shapes) (m : Marks) where
   next_begun End h e = F.in_part (at_end e (F.all h))
   next_begun (Part T ps) h r = F.in_next h r
 
-  begun_at : {t z : List Event} (ps : Parts) → z ≡ t → Begun ps t z
-  begun_at End e = e
-  begun_at (Part S ps) e = F.in_part (at_start e)
-
   module _ (short : IsShort m) where
     mutual
       cut : {S : Shape} {x : Leave} {t u : List Event} → Whole env m S x t u → {z : List Event} → Rest t z → Rest z u → Front env m S t z
-      cut F.skip i j = at_start (only i j)
       cut (F.sys fits) here j = F.nothing
       cut (F.sys fits) (later i) j = at_end (only i j) (F.all (F.sys fits))
       cut (F.call {s = s} {t = t} {u = u} {v = v} {w = w} k e h d p) {z = z} i j = elim (short.pre s t u z e i) as (λ r. Front env m (Call s) t z) [ inl a ↦ at_start a | inr b ↦ via (read h) b (λ r. elim (short.post s v w z p r) as (λ q. Front env m (Call s) t z) [ inl a ↦ at_end a (F.inside k e (F.all h)) | inr q ↦ at_end (only q j) (F.all (F.call k e h d p)) ]) (λ r. F.inside k e (cut h b r)) ]
@@ -132,10 +97,7 @@ module _ (env : Shapes) (m : Marks) where
       cut (F.cases_break h) i j = F.in_cases (cut_picks h i j)
       cut (F.cases_continue h) i j = F.in_cases (cut_picks h i j)
       cut (F.cases_return h) i j = F.in_cases (cut_picks h i j)
-      cut F.cases_none i j = at_start (only i j)
-      cut F.break_out i j = at_start (only i j)
-      cut F.continue_on i j = at_start (only i j)
-      cut F.return_now i j = at_start (only i j)
+      cut a i j = at_start (only i j)
 
       cut_rounds : {C B P : Shape} {t u : List Event} → Rounds env m C B P t u → {z : List Event} → Rest t z → Rest z u → Front env m (Loop C B P) t z
       cut_rounds F.none i j = at_start (only i j)

@@ -7,12 +7,7 @@ use Rattle.c_tree.specs.declared.value.Value.{Value}
 use Rattle.c_meaning.specs.Meaning.{Marks, with_marks}
 use Rattle.c_meaning.specs.Results.{State, Result, Go, Stop, after, then_do, spend_at}
 use Rattle.c_meaning.specs.NullCalls.{AreNullCalls}
-
-pub erase_append : (w u : List Event) → erase (w ++ u) ≡ erase w ++ erase u
-erase_append [] u = refl
-erase_append (Sys name arguments outcome ∷ w) u = ap (λ z. Sys name arguments outcome ∷ z) (erase_append w u)
-erase_append (Pre s ∷ w) u = erase_append w u
-erase_append (Post s ∷ w) u = erase_append w u
+use Rattle.flow_model.proofs.Histories.{erase-append}
 
 -- what was written is what was written without the null calls
 pub output_erase : (t : List Event) → output (erase t) ≡ output t
@@ -31,8 +26,8 @@ abbrev pub Alike : {A : Type 0} → Result A → Result A → Type 0
 Alike r q = bare r ≡ bare q
 
 bare_after : {A : Type 0} (w : List Event) (r : Result A) → bare (after w r) ≡ after (erase w) (bare r)
-bare_after w (Go a st u) = ap (λ z. Go a st z) (erase_append w u)
-bare_after w (Stop o u) = ap (λ z. Stop o z) (erase_append w u)
+bare_after w (Go a st u) = ap (λ z. Go a st z) (erase-append w u)
+bare_after w (Stop o u) = ap (λ z. Stop o z) (erase-append w u)
 
 bare_then : {A B : Type 0} (r : Result A) (f : A → State → Result B) → bare (then_do r f) ≡ then_do (bare r) (λ a st. bare (f a st))
 bare_then (Go a st w) f = bare_after w (f a st)

@@ -40,7 +40,7 @@ module _ (p : Program) (m n : Marks) (hm : AreNullCalls m) (hn : AreNullCalls n)
       q = enter p (world p n turns) n true p.main [] (beginning p records turns)
 
       h : Alike r q
-      h = runs_related p m n (λ rs. rs) (λ k. k) (λ st. Unit {0}) (λ st. Unit {0}) ⊥ _ alike (λ no. absurd no) (λ st i. tt) (λ k. refl) (record { enter = λ wanted f vs st i. refl; again = λ fr l h st i. refl }) records turns tt
+      h = runs_related p alike (λ no. absurd no) (λ st i. tt) (λ k. refl) (record { enter = λ wanted f vs. record { at = λ st i. refl }; again = λ fr l h. record { at = λ st i. refl } }) records turns tt
 
       outcome_of : (r : Result Value) → (ending r).outcome ≡ (ending (bare r)).outcome
       outcome_of (Go v st w) = refl

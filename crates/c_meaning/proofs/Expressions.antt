@@ -26,14 +26,11 @@ use Rattle.c_meaning.proofs.Standing.{left_part, right_part}
 use Rattle.c_meaning.proofs.FurtherSteps.{Sees, test_same, behind_of_same, load_place_same, moving_same, difference_same, comparing_same, operated_same, updated_same}
 use Rattle.c_meaning.proofs.Together.{Does, Shown, AllShown, sees, store_place_remembers, here, answered_does, remembered_does, Whenever, answered_then, either_does, instrumented_does, undefined_does, alone_does, Now, kind_shown, given_shown, place_shown, then_does}
 pub use Rattle.c_meaning.proofs.Keeps.{defined_at}
+pub use Rattle.c_meaning.proofs.Together.{any_whenever}
 
 pub right_whenever : (ok : Value → Type 0) (r : Answer Value) → Right {A = Value} ok r → Whenever {A = Value} ok r
 right_whenever ok (gives v) h = h
 right_whenever ok (undefined kind) h = tt
-
-pub any_whenever : (r : Answer Value) → Whenever {A = Value} (λ v. Unit {0}) r
-any_whenever (gives v) = tt
-any_whenever (undefined kind) = tt
 
 module _ (known : Objects) (last : ℕ) (p : Program) (n : ℕ) (typed : IsProgram p n) (marks : Marks) (recorded : AreRecorded marks) where
   -- entries of functions do alike
@@ -129,7 +126,7 @@ module _ (known : Objects) (last : ℕ) (p : Program) (n : ℕ) (typed : IsProgr
             let scalar = update_scalar p n typed op t (type_of b) h.0 in
             let shown = place_shown known last p u (type_of a) q k.tells i in
             let tells = k.tells in
-            answered_then known last {A = Value} {B = Value} (HasKind p u t) (load_place st.memory q) (load_place l q) st l _ _ (load_place_same st.memory l q (sees known last st.memory l q k.beside shown)) (right_whenever (HasKind p u t) (load_place st.memory q) (load_place_right p n typed u t q st.memory scalar (subst (λ t. IsPlaced p u t q) h.1 i) k.state.memory)) (λ before c. on_value {B = Value} true b u st l _ _ (on_frame o u g s) h.3 (right_part p (mentions a) (mentions b) m) k (value_does true b u st l (on_frame o u g s) h.3 (right_part p (mentions a) (mentions b) m) k) (λ u' v st l g j k. answered_then known last {A = Value} {B = Value} (λ x. Unit {0}) (updated op t (type_of b) st.memory before v) (updated op t (type_of b) l before v) st l _ _ (updated_same st.memory l op t (type_of b) before v (sees known last st.memory l before k.beside (kind_shown known last p u t before tells c))) (any_whenever (updated op t (type_of b) st.memory before v)) (λ new c. remembered_does known last {A = Value} (store_place st.memory q new) (store_place l q new) (either old before new) st l (store_place_remembers known last st.memory l q new shown k.beside)))))
+            answered_then known last {A = Value} {B = Value} (HasKind p u t) (load_place st.memory q) (load_place l q) st l _ _ (load_place_same st.memory l q (sees known last st.memory l q k.beside shown)) (right_whenever (HasKind p u t) (load_place st.memory q) (load_place_right p n typed u t q st.memory scalar (subst (λ t. IsPlaced p u t q) h.1 i) k.state.memory)) (λ before c. on_value {B = Value} true b u st l _ _ (on_frame o u g s) h.3 (right_part p (mentions a) (mentions b) m) k (value_does true b u st l (on_frame o u g s) h.3 (right_part p (mentions a) (mentions b) m) k) (λ u' v st l g j k. answered_then known last {A = Value} {B = Value} (λ x. Unit {0}) (updated op t (type_of b) st.memory before v) (updated op t (type_of b) l before v) st l _ _ (updated_same st.memory l op t (type_of b) before v (sees known last st.memory l before k.beside (kind_shown known last p u t before tells c))) (any_whenever {A = Value} (updated op t (type_of b) st.memory before v)) (λ new c. remembered_does known last {A = Value} (store_place st.memory q new) (store_place l q new) (either old before new) st l (store_place_remembers known last st.memory l q new shown k.beside)))))
         value_does wanted (conditional t c a b) o st more s h m k =
             let after_test = right_part p (mentions c) (mentions a ++ mentions b) m in
             on_test {B = Value} c o st more _ _ s h.0 (left_part p (mentions c) (mentions a ++ mentions b) m) k (value_does true c o st more s h.0.1 (left_part p (mentions c) (mentions a ++ mentions b) m) k) (λ u holds st l g k. either_does known last {A = Value} holds l _ _ _ _ (value_does true a u st l (on_frame o u g s) h.3 (left_part p (mentions a) (mentions b) after_test) k) (value_does true b u st l (on_frame o u g s) h.4 (right_part p (mentions a) (mentions b) after_test) k))

@@ -8,7 +8,7 @@ use Rattle.c_meaning.specs.Words.{Marks, brackets, no_brackets, Front}
 use Rattle.c_meaning.specs.Walks.{Point, Walks}
 use Rattle.c_meaning.specs.Walks as W
 use Rattle.c_meaning.specs.Languages.{Dyck, Stack, Callgraph}
-use Rattle.c_meaning.proofs.ErasedNullCalls.{erase_append}
+use Rattle.flow_model.proofs.Histories.{erase-append}
 use Rattle.c_meaning.proofs.Joining.{front_from, front_to}
 use Rattle.c_meaning.proofs.Cutting.{Rest, here, later, past, IsShort, short_brackets, short_no_brackets, front}
 
@@ -47,7 +47,7 @@ pub dyck_front : (env : Shapes) (a b : List Event) → Dyck env (a ++ b) → Dyc
 dyck_front env a b h = cut_word env brackets short_brackets (shape_of env env.main) a b h
 
 pub stack_front : (env : Shapes) (a b : List Event) → Stack env (a ++ b) → Stack env a
-stack_front env a b h = cut_word env no_brackets short_no_brackets (shape_of env env.main) (erase a) (erase b) (subst (λ t. Front env no_brackets (shape_of env env.main) t []) (erase_append a b) h)
+stack_front env a b h = cut_word env no_brackets short_no_brackets (shape_of env env.main) (erase a) (erase b) (subst (λ t. Front env no_brackets (shape_of env env.main) t []) (erase-append a b) h)
 
 pub callgraph_front : (env : Shapes) (a b : List Event) → Callgraph env (a ++ b) → Callgraph env a
-callgraph_front env a b h = cut_walk h (subst (λ t. First (erase a) t) (sym (erase_append a b)) (first (erase a) (erase b)))
+callgraph_front env a b h = cut_walk h (subst (λ t. First (erase a) t) (sym (erase-append a b)) (first (erase a) (erase b)))

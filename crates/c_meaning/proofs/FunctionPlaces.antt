@@ -3,7 +3,8 @@ use Rattle.std.proofs.Common.{◌≡◌, inl, inr, ℕ, zero, suc, ◌+◌, ◌-
 use Rattle.std.specs.List.{range_with_len}
 use Rattle.std.proofs.Common.{length-append}
 use Rattle.std.proofs.lemmas.Bool.{false≢true}
-use Rattle.std.proofs.lemmas.Option.{slice_get_within, slice_get-map}
+use Rattle.std.proofs.lemmas.Option.{slice_get_within, slice_get-map, get_or_from_slice_get}
+use Rattle.std.proofs.lemmas.List.{get_or_append_left, get_or-append-add}
 use Rattle.c_tree.specs.Tree.{CType, pointer, Function, Program}
 use Rattle.c_tree.specs.Functions.{defined, type_of_defined, value_types, null_types, value_type, called_type, sys_types}
 use Rattle.c_meaning.specs.Shape.{Shape, Skip, shape_of}
@@ -11,25 +12,14 @@ use Rattle.c_meaning.specs.Mentions.{Through}
 use Rattle.c_meaning.specs.CallGraph.{is_taken, is_typed, functions_of, callees}
 use Rattle.c_meaning.specs.ShapeOf.{shape_of_function, any_call, taken_calls, shapes_of_functions, place_of, shapes_of}
 use Rattle.c_meaning.proofs.SameTypes.{types_tell}
-use Rattle.c_meaning.proofs.Lists.{cases, none_in, and_left, and_right, is_below, isnt_below, from_filter, in_filter, from_range, in_range, same_some, no_some}
+use Rattle.c_meaning.proofs.Lists.{cases, none_in, and_left, and_right, is_below, isnt_below, from_filter, in_filter, from_range, in_range}
 use Rattle.c_meaning.proofs.Members.{length_map}
-use Rattle.c_meaning.proofs.Places.{get_before, get_left as get_from}
+use Rattle.c_meaning.proofs.Places.{get_left as get_from}
+pub use Rattle.c_meaning.proofs.Places.{get_before as get_left}
 use Rattle.c_meaning.proofs.Keeps.{defined_at, undefined_at}
 
--- an element of the first list
-pub get_left : {X : Type 0} (xs ys : List X) (k : ℕ) → k < length xs → slice_get (xs ++ ys) k ≡ slice_get xs k
-get_left xs ys k lt = get_before xs ys k lt
-
 index_left : {X : Type 0} (xs ys : List X) (d : X) (k : ℕ) (x : X) → slice_get xs k ≡ Some x → slice_index_or (xs ++ ys) k d ≡ x
-index_left [] ys d k x e = absurd (no_some x e)
-index_left (y ∷ xs) ys d zero x e = same_some y x e
-index_left (y ∷ xs) ys d (suc k) x e = index_left xs ys d k x e
-
-index_right : {X : Type 0} (xs ys : List X) (d : X) (k : ℕ) → slice_index_or (xs ++ ys) (length xs + k) d ≡ slice_index_or ys k d
-index_right [] ys d k = let e : 0 + k ≡ k = omega arith in ap (λ k. slice_index_or ys k d) e
-index_right (x ∷ xs) ys d k =
-    let e : suc (length xs) + k ≡ suc (length xs + k) = omega arith in
-    ap (λ k. slice_index_or (x ∷ (xs ++ ys)) k d) e ∙ index_right xs ys d k
+index_left xs ys d k x e = get_or_append_left xs ys d k (slice_get_within xs k x e) ∙ get_or_from_slice_get xs k x d e
 
 -- where a member of a rising list stands
 less_if : (a x : ℕ) (b : Bool) (ts : List ℕ) → x ≤ a → filter (λ y. nat_lt y x) ts ≡ [] → filter (λ y. nat_lt y x) (if b then a ∷ ts else ts) ≡ []
@@ -72,7 +62,7 @@ module _ (p : Program) where
       let less = length (filter (λ x. nat_lt x (f - defined p)) (taken_calls p)) in
       ap (λ b. shape_of (shapes_of p) (if b then f else defined p + less)) (isnt_below f (defined p) le)
       ∙ (ap (λ n. slice_index_or (shapes_of_functions p) (n + less) Skip) (sym (length_map (shape_of_function p) p.functions))
-      ∙ (index_right (map (shape_of_function p) p.functions) (map any_call (taken_calls p)) Skip less
+      ∙ (get_or-append-add (map (shape_of_function p) p.functions) (map any_call (taken_calls p)) less Skip
       ∙ stands_at any_call 0 24 (λ x. is_taken p (defined p + x)) (f - defined p) taken))
 
   -- a system call that is called through a pointer is taken

@@ -149,7 +149,7 @@ further_objects_change_nothing p n typed marks recorded turns =
       statements = λ fr r breaks continues a o last st more s h m k. exec_does o last p n typed marks recorded w goes (turns_do o last p n typed marks recorded turns).enters (turns_do o last p n typed marks recorded turns).agains fr r breaks continues a o st more s h m (begins_now p o last st more k);
     }
 
-ending_same : (o : Objects) (last : ℕ) (more : Memory) (r q : Result Value) → DoesAlike {A = Value} o last more r q → ending q ≡ ending r
+pub ending_same : (o : Objects) (last : ℕ) (more : Memory) (r q : Result Value) → DoesAlike {A = Value} o last more r q → ending q ≡ ending r
 ending_same o last more (Go v st w) q h = ap ending h.1
 ending_same o last more (Stop e w) q h = ap ending h
 

@@ -61,7 +61,7 @@ module _ (env : Shapes) (m : Marks) where
     picks_from (J.later h0) u = F.later (picks_from h0 u)
 
   mutual
-    whole_to : {S : Shape} {x : Leave} {t u : List Event} → Whole env m S x t u → Read (J.Whole env m S x) t u
+    pub whole_to : {S : Shape} {x : Leave} {t u : List Event} → Whole env m S x t u → Read (J.Whole env m S x) t u
     whole_to F.skip = ([], refl, J.skip)
     whole_to (F.sys {e = e} q0) = (e ∷ [], refl, J.sys q0)
     whole_to (F.call {s = s} {t = t} {u = u} {v = v} {w = w} k e h d i) = let r = whole_to h in (m.pre s ++ (r.0 ++ m.post s), join t (m.pre s) u (r.0 ++ m.post s) w e (join u (r.0) v (m.post s) w r.1 i), J.call k r.2 d)
@@ -83,11 +83,11 @@ module _ (env : Shapes) (m : Marks) where
     whole_to F.continue_on = ([], refl, J.continue_on)
     whole_to F.return_now = ([], refl, J.return_now)
 
-    rounds_to : {C B P : Shape} {t u : List Event} → Rounds env m C B P t u → Read (J.Rounds env m C B P) t u
+    pub rounds_to : {C B P : Shape} {t u : List Event} → Rounds env m C B P t u → Read (J.Rounds env m C B P) t u
     rounds_to F.none = ([], refl, J.none)
     rounds_to (F.round {t = t} {u = u} {v = v} {w = w} {a = a} h0 h1 q2 h3 h4) = let r0 = rounds_to h0 in let r1 = whole_to h1 in let r2 = whole_to h3 in let r3 = whole_to h4 in ((r0.0 ++ (r1.0 ++ (r2.0 ++ r3.0))), (join t (r0.0) u (r1.0 ++ (r2.0 ++ r3.0)) a r0.1 (join u (r1.0) v (r2.0 ++ r3.0) a r1.1 (join v (r2.0) w (r3.0) a r2.1 r3.1))), J.round r0.2 r1.2 q2 r2.2 r3.2)
 
-    agains_to : {B C : Shape} {t u : List Event} → Again env m B C t u → Read (J.Again env m B C) t u
+    pub agains_to : {B C : Shape} {t u : List Event} → Again env m B C t u → Read (J.Again env m B C) t u
     agains_to F.first = ([], refl, J.first)
     agains_to (F.again {t = t} {u = u} {v = v} {w = w} h0 q1 h2 h3) = let r0 = agains_to h0 in let r1 = whole_to h2 in let r2 = whole_to h3 in ((r0.0 ++ (r1.0 ++ r2.0)), (join t (r0.0) u (r1.0 ++ r2.0) w r0.1 (join u (r1.0) v (r2.0) w r1.1 r2.1)), J.again r0.2 q1 r1.2 r2.2)
 

@@ -45,13 +45,13 @@ pub mod SystemNames
 pub mod ProgramsClosed
 pub mod ProgramGraphs
 pub mod Open
-pub mod Agreeing
 pub mod Calls
 pub mod Candidates
 pub mod Differences
 pub mod Ends
 pub mod EnoughTurns
 pub mod Expressions
+pub mod Following
 pub mod FurtherSteps
 pub mod FurtherWorlds
 pub mod Keeps

@@ -42,15 +42,15 @@ module _ (p : Program) (marks : Marks) (records : List SysResult) (turns : ℕ) 
       at (inl l) = inl l
       at (inr e) = inr (h e)
 
-  none : AreRelated p marks marks (λ rs. rs ++ records) (λ k. plus k turns) (λ st. Unit {0}) (λ st. Unit {0}) ⊥ (λ A r q. Goes {A = A} r q) goes (world p marks 0) (world p marks turns)
+  none : AreRelated p goes (world p marks 0) (world p marks turns)
   none = record {
-    enter = λ wanted f vs st i. none_left {A = Value} _ (λ e. ap (λ k. (world p marks k).enter wanted f vs (further st)) e);
-    again = λ fr l h st i. none_left {A = Exit} _ (λ e. ap (λ k. (world p marks k).again fr l (further st)) e);
+    enter = λ wanted f vs. record { at = λ st i. none_left {A = Value} _ (λ e. ap (λ k. (world p marks k).enter wanted f vs (further st)) e) };
+    again = λ fr l h. record { at = λ st i. none_left {A = Exit} _ (λ e. ap (λ k. (world p marks k).again fr l (further st)) e) };
   }
 
   -- a run that did not end for want of what there is more of
   run_goes : (rs : List SysResult) (k : ℕ) → (Lack ((run_with p marks rs k).outcome) → ⊥) → run_with p marks (rs ++ records) (plus k turns) ≡ run_with p marks rs k
-  run_goes rs k not = at (enter p (world p marks k) marks true p.main [] (beginning p rs k)) _ (runs_related p marks marks (λ rs. rs ++ records) (λ k. plus k turns) (λ st. Unit {0}) (λ st. Unit {0}) ⊥ _ goes (λ no. absurd no) (λ st i. tt) (λ k. refl) none rs k tt) not
+  run_goes rs k not = at (enter p (world p marks k) marks true p.main [] (beginning p rs k)) _ (runs_related p goes (λ no. absurd no) (λ st i. tt) (λ k. refl) none rs k tt) not
     where
       same : (r : Result Value) → ending (longer records turns Lack lack r) ≡ ending r
       same (Go v st w) = refl

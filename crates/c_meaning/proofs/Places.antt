@@ -2,7 +2,7 @@
 use Rattle.std.proofs.Common.{◌≡◌, ℕ, zero, suc, ◌+◌, ◌*◌, ◌<◌, ◌≤◌, if◌then◌else◌, Bool, true, false, ℤ, FitsSigned, List, [], ◌∷◌, ◌++◌, All, Option, Some, None, slice_get, slice_set, replicate, length, length-append, sym, ap, ◌∙◌, subst, refl, arith}
 use Rattle.std.specs.Int.{w32}
 use Rattle.std.specs.List.{AllZip}
-use Rattle.std.proofs.lemmas.Option.{slice_get_within}
+use Rattle.std.proofs.lemmas.Option.{get_or_from_slice_get, slice_get_within}
 use Rattle.std.proofs.lemmas.List.Elements.{All-nil, All-cons, All-append, All-head, All-tail}
 use Rattle.c_tree.specs.declared.value.ObjectName.{ObjectName}
 use Rattle.c_tree.specs.declared.value.IntType.TheVariants as i
@@ -22,9 +22,7 @@ use Rattle.c_meaning.proofs.StoreLemmas.{same_is}
 use Rattle.c_meaning.specs.StoreTyping.{HasKind, IsCell, IsGiven, IsPlaced, IsTypedMemory, Grows}
 
 pub all_get : {A : Type 0} (P : A → Type 0) (xs : List A) (k : ℕ) (x : A) → All P xs → slice_get xs k ≡ Some x → P x
-all_get P [] k x h e = absurd (cc)
-all_get P (y ∷ xs) zero x h e = let same : y ≡ x = cc in subst P same (All-head P y xs h)
-all_get P (y ∷ xs) (suc k) x h e = all_get P xs k x (All-tail P y xs h) e
+all_get P xs k x h e = subst P (get_or_from_slice_get xs k x x e) (h k x (slice_get_within xs k x e))
 
 pub get_right : {A : Type 0} (xs ys : List A) (k : ℕ) → slice_get (xs ++ ys) (length xs + k) ≡ slice_get ys k
 get_right [] ys k = ap (λ n. slice_get ys n) (omega arith)

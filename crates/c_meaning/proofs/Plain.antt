@@ -1,5 +1,5 @@
 -- The events of a program that makes no null call: by recursion on its parts, and on turns.
-use Rattle.std.proofs.Common.{◌≡◌, ℕ, zero, suc, Bool, true, false, if◌then◌else◌, List, [], ◌∷◌, ◌++◌, ap, ◌∙◌, refl}
+use Rattle.std.proofs.Common.{◌≡◌, ℕ, zero, suc, true, List, [], ◌∷◌, ◌++◌, ap, ◌∙◌, refl}
 use Rattle.dm_base.specs.declared.event.Event.{Event}
 use Rattle.sys_table.specs.declared.sys_result.SysResult.{SysResult}
 use Rattle.c_tree.specs.declared.value.Value.{Value}
@@ -11,12 +11,11 @@ use Rattle.c_meaning.specs.Runs.{enter, world, beginning}
 use Rattle.dm_base.specs.declared.event.Event.TheVariants.{Sys}
 use Rattle.dm_base.specs.Trace.{erase}
 use Rattle.c_meaning.specs.Runs.{run, no_marks, ending}
-use Rattle.c_meaning.specs.SystemCalls.{Request, take_record, does_answer, with_records, filled_where, result_value}
-use Rattle.sys_table.specs.Table.{result_of as result_kind}
+use Rattle.c_meaning.specs.SystemCalls.{Request, take_record, does_answer, with_records, filled_where}
 use Rattle.c_meaning.specs.WithoutNullCalls.{MakesNoNullCall}
-use Rattle.c_meaning.proofs.ErasedNullCalls.{erase_append}
+use Rattle.flow_model.proofs.Histories.{erase-append}
+use Rattle.c_meaning.proofs.Lists.{if_has}
 use Rattle.c_meaning.proofs.TwoRuns.{Relates, runs_related}
-use Rattle.dm_base.specs.declared.outcome.Outcome.TheVariants.{BadResult}
 
 -- a part makes no null call
 abbrev pub Plain : {A : Type 0} → Result A → Type 0
@@ -24,7 +23,7 @@ Plain (Go a st w) = erase w ≡ w
 Plain (Stop o w) = erase w ≡ w
 
 append_plain : (w u : List Event) → erase w ≡ w → erase u ≡ u → erase (w ++ u) ≡ w ++ u
-append_plain w u h k = erase_append w u ∙ (ap (λ z. z ++ erase u) h ∙ ap (λ z. w ++ z) k)
+append_plain w u h k = erase-append w u ∙ (ap (λ z. z ++ erase u) h ∙ ap (λ z. w ++ z) k)
 
 after_plain : {A : Type 0} (w : List Event) (r : Result A) → erase w ≡ w → Plain r → Plain (after w r)
 after_plain w (Go a st u) h k = append_plain w u h k
@@ -45,17 +44,7 @@ turn_plain (suc n) st f h = h _
 take_plain : (x : ℕ) (q : Request) (rs : List SysResult) (st : State) → Plain (take_record x q rs st)
 take_plain x q [] st = refl
 take_plain x q (r ∷ rs) st =
-    at (does_answer x q.asked r)
-  where
-    stored : Answer Objects
-    stored = filled_where q.buffer r.bytes st.memory
-
-    gave : Value
-    gave = result_value (result_kind x) r.value
-
-    at : (b : Bool) → Plain (if b then after (Sys x q.arguments r.value ∷ []) (remembered stored gave (with_records st rs)) else Stop (BadResult (suc st.taken)) [])
-    at true = after_plain {A = Value} (Sys x q.arguments r.value ∷ []) (remembered stored gave (with_records st rs)) refl (remembered_plain {A = Value} stored gave (with_records st rs))
-    at false = refl
+    if_has {A = Result Value} (λ z. Plain {A = Value} z) (does_answer x q.asked r) _ _ (λ e. after_plain {A = Value} (Sys x q.arguments r.value ∷ []) _ refl (remembered_plain {A = Value} (filled_where q.buffer r.bytes st.memory) _ (with_records st rs))) (λ e. refl)
 
 plain : Relates no_marks no_marks (λ rs. rs) (λ k. k) (λ st. Unit {0}) (λ st. Unit {0}) (Unit {0}) (λ A r q. Plain {A = A} r)
 plain = record {
@@ -75,7 +64,7 @@ module _ (p : Program) (free : MakesNoNullCall p) where
   -- the events of a run are without null calls
   pub run_plain : (records : List SysResult) (turns : ℕ) → erase ((run p records turns).trace) ≡ (run p records turns).trace
   run_plain records turns =
-      at (enter p (world p no_marks turns) no_marks true p.main [] (beginning p records turns)) (runs_related p no_marks no_marks (λ rs. rs) (λ k. k) (λ st. Unit {0}) (λ st. Unit {0}) (Unit {0}) _ plain (λ t. free) (λ st i. tt) (λ k. refl) (record { enter = λ wanted f vs st i. refl; again = λ fr l h st i. refl }) records turns tt)
+      at (enter p (world p no_marks turns) no_marks true p.main [] (beginning p records turns)) (runs_related p plain (λ t. free) (λ st i. tt) (λ k. refl) (record { enter = λ wanted f vs. record { at = λ st i. refl }; again = λ fr l h. record { at = λ st i. refl } }) records turns tt)
     where
       at : (r : Result Value) → Plain r → erase ((ending r).trace) ≡ (ending r).trace
       at (Go v st w) h = h

@@ -1,28 +1,25 @@
 -- As many rounds as there are defined functions find all functions that may come to a system call.
-use Rattle.std.proofs.Common.{◌≡◌, ℕ, zero, suc, ◌+◌, ◌<◌, ◌≤◌, Bool, true, false, ◌||◌, nat_eq, if◌then◌else◌, List, [], ◌∷◌, ◌++◌, length, filter, slice_get, ◌⊎◌, inl, inr, sym, ap, ◌∙◌, subst, refl, arith}
+use Rattle.std.proofs.Common.{◌≡◌, ℕ, zero, suc, ◌+◌, ◌-◌, ◌≤◌, Bool, true, false, ◌||◌, nat_eq, List, [], ◌∷◌, ◌++◌, length, filter, slice_get, inl, inr, sym, ap, ◌∙◌, subst, refl, arith}
 use Rattle.std.specs.List.{range_with_len}
 use Rattle.std.specs.Cmp.{nat_eq_equiv}
-use Rattle.std.proofs.lemmas.Bool.{false≢true}
+use Rattle.std.proofs.lemmas.Bool.{false≢true, cases_lt}
+use Rattle.std.proofs.lemmas.List.FromFn.{length-range_with_len}
 use Rattle.c_tree.specs.Tree.{Program}
 use Rattle.c_tree.specs.Functions.{defined}
 use Rattle.c_meaning.specs.Mentions.{Mention, Named, Calls}
 use Rattle.c_meaning.specs.CallGraph.{is_in, has_one, functions_of, callees, enters, said_by, one_round, reaching, reaches}
 use Rattle.c_meaning.proofs.Members.{or_left, or_right, or_cases, same_number}
+use Rattle.c_meaning.proofs.Lists.{one_passes, one_found, in_is, is_in_of, from_filter, in_filter, from_range, in_range, one, counted, counted_append}
 
 -- each member of the one list is one of the other
 abbrev Within : List ℕ → List ℕ → Type 0
 Within fs gs = (f : ℕ) → is_in f fs ≡ true → is_in f gs ≡ true
 
-abbrev weight : Bool → ℕ
-weight true = 1
-weight false = 0
-
 -- how many of the numbers are members
 abbrev tally : List ℕ → List ℕ → ℕ
-tally fs [] = 0
-tally fs (x ∷ xs) = weight (is_in x fs) + tally fs xs
+tally fs xs = counted (λ x. is_in x fs) xs
 
-count_more : (a b : Bool) → (a ≡ true → b ≡ true) → weight a ≤ weight b
+count_more : (a b : Bool) → (a ≡ true → b ≡ true) → one a ≤ one b
 count_more true false h = absurd (false≢true (h refl))
 count_more a b h = omega arith
 
@@ -30,7 +27,7 @@ tally_more : (fs gs : List ℕ) → Within fs gs → (xs : List ℕ) → tally f
 tally_more fs gs w [] = omega arith
 tally_more fs gs w (x ∷ xs) = let k = count_more (is_in x fs) (is_in x gs) (w x) in let i = tally_more fs gs w xs in omega (arith, k, i)
 
-count_same : (a b : Bool) → (a ≡ true → b ≡ true) → weight b ≤ weight a → b ≡ true → a ≡ true
+count_same : (a b : Bool) → (a ≡ true → b ≡ true) → one b ≤ one a → b ≡ true → a ≡ true
 count_same true b h le k = refl
 count_same false true h le k = absurd (omega (arith, le))
 count_same false false h le k = k
@@ -50,12 +47,12 @@ tally_most : (fs xs : List ℕ) → tally fs xs ≤ length xs
 tally_most fs [] = omega arith
 tally_most fs (x ∷ xs) = let k = one_most (is_in x fs) in let i = tally_most fs xs in omega (arith, k, i)
   where
-    one_most : (b : Bool) → weight b ≤ 1
+    one_most : (b : Bool) → one b ≤ 1
     one_most true = omega arith
     one_most false = omega arith
 
 -- where all numbers are members
-all_count : (b : Bool) → 1 ≤ weight b → b ≡ true
+all_count : (b : Bool) → 1 ≤ one b → b ≡ true
 all_count true h = refl
 all_count false h = absurd (omega (arith, h))
 
@@ -70,34 +67,18 @@ all_members fs (x ∷ xs) le f h =
     ]
 
 -- a filter has the numbers that pass
-from_kept : (test : ℕ → Bool) (x : ℕ) (xs : List ℕ) (b : Bool) → test x ≡ b → (f : ℕ) → is_in f (if b then x ∷ filter test xs else filter test xs) ≡ true → (is_in f (filter test xs) ≡ true → (is_in f xs ≡ true) × (test f ≡ true)) → (is_in f (x ∷ xs) ≡ true) × (test f ≡ true)
-from_kept test x xs true e f h rest = elim (or_cases (nat_eq f x) (is_in f (filter test xs)) h) as (λ q. (is_in f (x ∷ xs) ≡ true) × (test f ≡ true)) [
-  | inl q ↦ (or_left (nat_eq f x) (is_in f xs) q, subst (λ f. test f ≡ true) (sym (same_number f x q)) e)
-  | inr q ↦ (let r = rest q in (or_right (nat_eq f x) (is_in f xs) r.0, r.1))
-]
-from_kept test x xs false e f h rest = let r = rest h in (or_right (nat_eq f x) (is_in f xs) r.0, r.1)
+passes : (test : ℕ → Bool) (xs : List ℕ) (f : ℕ) → is_in f (filter test xs) ≡ true → (is_in f xs ≡ true) × (test f ≡ true)
+passes test xs f h = let r = from_filter test xs f (in_is f (filter test xs) h) in (is_in_of f xs r.0, r.1)
 
-from_filter : (test : ℕ → Bool) (xs : List ℕ) (f : ℕ) → is_in f (filter test xs) ≡ true → (is_in f xs ≡ true) × (test f ≡ true)
-from_filter test [] f h = absurd (false≢true h)
-from_filter test (x ∷ xs) f h = from_kept test x xs (test x) refl f h (λ k. from_filter test xs f k)
-
-to_kept : (test : ℕ → Bool) (x : ℕ) (xs : List ℕ) (b : Bool) → test x ≡ b → (f : ℕ) → test f ≡ true → ((f ≡ x) ⊎ (is_in f (filter test xs) ≡ true)) → is_in f (if b then x ∷ filter test xs else filter test xs) ≡ true
-to_kept test x xs true e f t (inl q) = or_left (nat_eq f x) (is_in f (filter test xs)) (ap (nat_eq f) (sym q) ∙ nat_eq_equiv.refl f)
-to_kept test x xs true e f t (inr q) = or_right (nat_eq f x) (is_in f (filter test xs)) q
-to_kept test x xs false e f t (inl q) = absurd (false≢true (sym e ∙ (ap test (sym q) ∙ t)))
-to_kept test x xs false e f t (inr q) = q
-
-to_filter : (test : ℕ → Bool) (xs : List ℕ) (f : ℕ) → is_in f xs ≡ true → test f ≡ true → is_in f (filter test xs) ≡ true
-to_filter test [] f h t = absurd (false≢true h)
-to_filter test (x ∷ xs) f h t = to_kept test x xs (test x) refl f t (elim (or_cases (nat_eq f x) (is_in f xs) h) as (λ q. (f ≡ x) ⊎ (is_in f (filter test xs) ≡ true)) [ inl q ↦ inl (same_number f x q) | inr q ↦ inr (to_filter test xs f q t) ])
+pub to_filter : (test : ℕ → Bool) (xs : List ℕ) (f : ℕ) → is_in f xs ≡ true → test f ≡ true → is_in f (filter test xs) ≡ true
+to_filter test xs f h t = is_in_of f (filter test xs) (in_filter test xs f (in_is f xs h) t)
 
 -- what may be called of fewer functions may be called of more
 one_more : {X : Type 0} (t u : X → Bool) → ((x : X) → t x ≡ true → u x ≡ true) → (xs : List X) → has_one t xs ≡ true → has_one u xs ≡ true
-one_more t u w [] h = absurd (false≢true h)
-one_more t u w (x ∷ xs) h = elim (or_cases (t x) (has_one t xs) h) as (λ q. has_one u (x ∷ xs) ≡ true) [ inl q ↦ or_left (u x) (has_one u xs) (w x q) | inr q ↦ or_right (u x) (has_one u xs) (one_more t u w xs q) ]
+one_more t u w xs h = let r = one_passes t xs h in one_found u xs r.0 r.1 (w r.0 r.2)
 
 -- ranges
-range_append : (a n m : ℕ) → range_with_len a (n + m) ≡ range_with_len a n ++ range_with_len (a + n) m
+pub range_append : (a n m : ℕ) → range_with_len a (n + m) ≡ range_with_len a n ++ range_with_len (a + n) m
 range_append a zero m =
     let none : 0 + m ≡ m = omega arith in
     let start : a ≡ a + 0 = omega arith in
@@ -107,28 +88,16 @@ range_append a (suc n) m =
     let start : a + 1 + n ≡ a + suc n = omega arith in
     ap (λ k. range_with_len a k) more ∙ ap (λ t. a ∷ t) (range_append (a + 1) n m ∙ ap (λ k. range_with_len (a + 1) n ++ range_with_len k m) start)
 
-in_append : (f : ℕ) (xs ys : List ℕ) → is_in f ys ≡ true → is_in f (xs ++ ys) ≡ true
-in_append f [] ys h = h
-in_append f (x ∷ xs) ys h = or_right (nat_eq f x) (is_in f (xs ++ ys)) (in_append f xs ys h)
-
-tally_append : (fs xs ys : List ℕ) → tally fs (xs ++ ys) ≡ tally fs xs + tally fs ys
-tally_append fs [] ys = omega arith
-tally_append fs (x ∷ xs) ys = let k = tally_append fs xs ys in omega (arith, k)
-
 tally_later : (x : ℕ) (fs xs : List ℕ) → tally fs xs ≤ tally (x ∷ fs) xs
 tally_later x fs xs = tally_more fs (x ∷ fs) (λ f h. or_right (nat_eq f x) (is_in f fs) h) xs
 
 tally_itself : (xs : List ℕ) → length xs ≤ tally xs xs
 tally_itself [] = omega arith
 tally_itself (x ∷ xs) =
-    let k : weight (is_in x (x ∷ xs)) ≡ 1 = ap weight (or_left (nat_eq x x) (is_in x xs) (nat_eq_equiv.refl x)) in
+    let k : one (is_in x (x ∷ xs)) ≡ 1 = ap one (or_left (nat_eq x x) (is_in x xs) (nat_eq_equiv.refl x)) in
     let i = tally_later x xs xs in
     let j = tally_itself xs in
     omega (arith, k, i, j)
-
-length_range : (a n : ℕ) → length (range_with_len a n) ≡ n
-length_range a zero = refl
-length_range a (suc n) = let k = length_range (a + 1) n in omega (arith, k)
 
 module _ (p : Program) where
   abbrev all : List ℕ
@@ -152,14 +121,16 @@ module _ (p : Program) where
       ]
 
   round_more : (fs gs : List ℕ) → Within fs gs → Within (one_round p fs) (one_round p gs)
-  round_more fs gs w f h = let r = from_filter (test fs) all f h in to_filter (test gs) all f r.0 (test_more fs gs w f r.1)
+  round_more fs gs w f h = let r = passes (test fs) all f h in to_filter (test gs) all f r.0 (test_more fs gs w f r.1)
 
   calls_known : (f : ℕ) → is_in f (range_with_len (defined p) 24) ≡ true → is_in f all ≡ true
-  calls_known f h = subst (λ xs. is_in f xs ≡ true) (sym (range_append 0 (defined p) 24)) (in_append f (range_with_len 0 (defined p)) (range_with_len (0 + defined p) 24) (let e : defined p ≡ 0 + defined p = omega arith in subst (λ k. is_in f (range_with_len k 24) ≡ true) e h))
+  calls_known f h =
+      let r = from_range (defined p) 24 f (in_is f (range_with_len (defined p) 24) h) in
+      is_in_of f all (in_range 0 (defined p + 24) f (omega arith) (omega (arith, r.1)))
 
   known : (n f : ℕ) → is_in f (R n) ≡ true → is_in f all ≡ true
   known zero f h = calls_known f h
-  known (suc n) f h = (from_filter (test (R n)) all f h).0
+  known (suc n) f h = (passes (test (R n)) all f h).0
 
   grows : (n : ℕ) → Within (R n) (R (suc n))
   grows n f h = to_filter (test (R n)) all f (known n f h) (or_left (is_in f (R n)) (has_one (enters p (R n)) (said_by (slice_get p.functions f))) h)
@@ -179,10 +150,10 @@ module _ (p : Program) where
   first_count : 24 ≤ tally (R 0) all
   first_count =
       let e : tally (R 0) all ≡ tally (R 0) (range_with_len 0 (defined p) ++ range_with_len (0 + defined p) 24) = ap (tally (R 0)) (range_append 0 (defined p) 24) in
-      let k = tally_append (R 0) (range_with_len 0 (defined p)) (range_with_len (0 + defined p) 24) in
+      let k = counted_append (λ x. is_in x (R 0)) (range_with_len 0 (defined p)) (range_with_len (0 + defined p) 24) in
       let same_start : tally (R 0) (range_with_len (0 + defined p) 24) ≡ tally (R 0) (range_with_len (defined p) 24) = (let e : 0 + defined p ≡ defined p = omega arith in ap (λ a. tally (R 0) (range_with_len a 24)) e) in
       let i = tally_itself (range_with_len (defined p) 24) in
-      let l = length_range (defined p) 24 in
+      let l = length-range_with_len (defined p) 24 in
       omega (arith, e, k, same_start, i, l)
 
   -- a round that finds nothing came before, or each round found a function
@@ -190,18 +161,13 @@ module _ (p : Program) where
     nothing : (k : ℕ) → k ≤ n → Within (R (suc k)) (R k) → Found n
     one_each : 24 + n ≤ tally (R n) all → Found n
 
-  less_or : (a b : ℕ) → (a < b) ⊎ (b ≤ a)
-  less_or zero (suc b) = inl (omega arith)
-  less_or (suc a) (suc b) = elim (less_or a b) as (λ k. (suc a < suc b) ⊎ (suc b ≤ suc a)) [ inl k ↦ inl (omega (arith, k)) | inr k ↦ inr (omega (arith, k)) ]
-  less_or a zero = inr (omega arith)
-
   found : (n : ℕ) → Found n
   found zero = one_each (let k = first_count in omega (arith, k))
   found (suc n) = by (found n)
     where
       by : Found n → Found (suc n)
       by (nothing k le w) = nothing k (omega (arith, le)) w
-      by (one_each h) = elim (less_or (tally (R n) all) (tally (R (suc n)) all)) as (λ q. Found (suc n)) [
+      by (one_each h) = elim (cases_lt (tally (R n) all) (tally (R (suc n)) all)) as (λ q. Found (suc n)) [
         | inl lt ↦ one_each (omega (arith, h, lt))
         | inr le ↦ nothing n (omega arith) (λ f k. no_more (R n) (R (suc n)) (grows n) all le f (known (suc n) f k) k)
       ]
@@ -213,15 +179,13 @@ module _ (p : Program) where
   at n m e f h = subst (λ m. is_in f (R m) ≡ true) e h
 
   minus : (a b : ℕ) → a ≤ b → (k : ℕ) × (a + k ≡ b)
-  minus zero b le = (b, omega arith)
-  minus (suc a) zero le = absurd (omega (arith, le))
-  minus (suc a) (suc b) le = let r = minus a b (omega (arith, le)) in (r.0, let e = r.1 in omega (arith, e))
+  minus a b le = (b - a, omega (arith, le))
 
   from_settled : (k : ℕ) → k ≤ d → Within (R (suc k)) (R k) → (n : ℕ) → Within (R n) (R d)
   from_settled k le w n f h =
       let r = minus k d le in
       let to_d : is_in f (R k) ≡ true → is_in f (R d) ≡ true = λ i. at (k + r.0) d r.1 f (grow k (r.0) f i) in
-      elim (less_or k n) as (λ q. is_in f (R d) ≡ true) [
+      elim (cases_lt k n) as (λ q. is_in f (R d) ≡ true) [
         | inl lt ↦ (let s = minus k n (omega (arith, lt)) in to_d (settled k (s.0) w f (at n (k + s.0) (sym s.1) f h)))
         | inr ge ↦ (let s = minus n k ge in to_d (at (n + s.0) k s.1 f (grow n (s.0) f h)))
       ]
@@ -231,4 +195,4 @@ module _ (p : Program) where
     where
       by : Found d → is_in f (R d) ≡ true
       by (nothing k le w) = from_settled k le w n f h
-      by (one_each le) = all_members (R d) all (let l = length_range 0 (d + 24) in omega (arith, le, l)) f (known n f h)
+      by (one_each le) = all_members (R d) all (let l = length-range_with_len 0 (d + 24) in omega (arith, le, l)) f (known n f h)

@@ -11,8 +11,9 @@ use Rattle.c_meaning.specs.Functions.{defined}
 use Rattle.c_meaning.specs.Constants.{pattern_of}
 use Rattle.c_meaning.specs.Typed.{IsStmt, AreStmts, AreGroups, AreFirst, IsFirst}
 use Rattle.c_meaning.specs.IntType.{IntType}
-use Rattle.c_meaning.proofs.Members.{same_number}
-use Rattle.c_meaning.specs.Sites.{sites_of, sites_of_all, sites_of_maybe, sites_of_inits, sites_of_stmt, sites_of_stmts, sites_of_groups}
+use Rattle.c_meaning.proofs.Lists.{same_number, if_has}
+use Rattle.c_tree.specs.Gathered.{Gathering, gathered, gathered_all, gathered_maybe, gathered_inits, gathered_stmt, gathered_stmts, gathered_groups}
+use Rattle.c_meaning.specs.Sites.{all_sites}
 use Rattle.c_meaning.proofs.PatternLemmas.{patterns_right}
 use Rattle.c_meaning.specs.Shape.{Shape, Skip, Sys, Exit, Call, Seq, Alt, Loop, Do, Cases, Break, Continue, Return, Parts, End, Part, exit_call}
 use Rattle.c_meaning.specs.Bodies.{IsExpression, AreExpressions, IsStatement, AreStatements, IsBody}
@@ -41,10 +42,6 @@ pub record Stands (P : Shape → ℕ → Type 0) (Ps : Parts → ℕ → Type 0)
   pub breaks : (n : ℕ) → P Break n
   pub continues : (n : ℕ) → P Continue n
   pub returns : (n : ℕ) → P Return n
-
-pub if_has : (P : Shape → Type 0) (b : Bool) (S T : Shape) → (b ≡ true → P S) → (b ≡ false → P T) → P (if b then S else T)
-if_has P true S T h k = h refl
-if_has P false S T h k = k refl
 
 module _ (P : Shape → ℕ → Type 0) (Ps : Parts → ℕ → Type 0) (w : Spreads P Ps) where
   before_has : (S : Shape) (ps : Parts) (m n : ℕ) → P S m → Ps ps n → Ps (before_parts S ps) (m + n)
@@ -76,27 +73,29 @@ module _ (P : Shape → ℕ → Type 0) (Ps : Parts → ℕ → Type 0) (w : Spr
   or_skip : (S : Shape) (n : ℕ) → P S n → P (alt S Skip) n
   or_skip S n h = w.more (alt S Skip) (n + 0) n (alt_has S Skip n 0 h (w.skip 0)) (omega arith)
 
-  -- the number of a tree is that of its sites
-  module _ (c : List ℕ → ℕ) (joins : (xs ys : List ℕ) → c (xs ++ ys) ≡ c xs + c ys) (p : Program) (called : (s : ℕ) → P (Call s) (c (s ∷ []))) (system : (x : ℕ) (es : Exprs) (n : ℕ) → P (system_call x (pattern_of x es)) n) where
-    through : (s : ℕ) (callee : Callee) → P (marked_call p s callee) (c (s ∷ []))
-    through s callee = if_has (λ S. P S (c (s ∷ []))) (is_marked p callee) (Call s) Skip (λ h. called s) (λ h. w.skip (c (s ∷ [])))
+  -- a call at a site, which may be Skip
+  marked_has : (p : Program) (s : ℕ) (callee : Callee) (n : ℕ) → (is_marked p callee ≡ true → P (Call s) n) → P (marked_call p s callee) n
+  marked_has p s callee n h = if_has (λ S. P S n) (is_marked p callee) (Call s) Skip h (λ no. w.skip n)
 
-    direct : (s f : ℕ) (es : Exprs) → P (direct_call p s f es) (c (s ∷ []))
+  -- the number of a tree is that of what is gathered from it
+  module _ {X : Type 0} (g : Gathering X) (c : List X → ℕ) (joins : (xs ys : List X) → c (xs ++ ys) ≡ c xs + c ys) (p : Program) (called : (s f : ℕ) → is_marked p (Direct f) ≡ true → P (Call s) (c (g.direct s f ∷ []))) (called_through : (s : ℕ) (t : CType) → is_marked p (Through t) ≡ true → P (Call s) (c (g.through s t ∷ []))) (system : (s f : ℕ) (es : Exprs) → nat_lt f (defined p) ≡ false → nat_lt (f - defined p) 24 ≡ true → P (system_call (f - defined p) (pattern_of (f - defined p) es)) (c (g.direct s f ∷ []))) where
+    direct : (s f : ℕ) (es : Exprs) → P (direct_call p s f es) (c (g.direct s f ∷ []))
     direct s f es =
         let x = f - defined p in
-        if_has (λ S. P S (c (s ∷ []))) (nat_lt f (defined p)) (marked_call p s (Direct f)) (if nat_lt x 24 then system_call x (pattern_of x es) else Skip) (λ h. through s (Direct f)) (λ h. if_has (λ S. P S (c (s ∷ []))) (nat_lt x 24) (system_call x (pattern_of x es)) Skip (λ k. system x es (c (s ∷ []))) (λ k. w.skip (c (s ∷ []))))
+        let n = c (g.direct s f ∷ []) in
+        if_has (λ S. P S n) (nat_lt f (defined p)) (marked_call p s (Direct f)) (if nat_lt x 24 then system_call x (pattern_of x es) else Skip) (λ h. marked_has p s (Direct f) n (called s f)) (λ h. if_has (λ S. P S n) (nat_lt x 24) (system_call x (pattern_of x es)) Skip (λ k. system s f es h k) (λ k. w.skip n))
 
-    two : (S T : Shape) (xs ys : List ℕ) → P S (c xs) → P T (c ys) → P (seq_two S T) (c (xs ++ ys))
+    two : (S T : Shape) (xs ys : List X) → P S (c xs) → P T (c ys) → P (seq_two S T) (c (xs ++ ys))
     two S T xs ys h k = subst (λ n. P (seq_two S T) n) (sym (joins xs ys)) (seq_two_has S T (c xs) (c ys) h k)
 
-    one_of : (S T : Shape) (xs ys : List ℕ) → P S (c xs) → P T (c ys) → P (alt S T) (c (xs ++ ys))
+    one_of : (S T : Shape) (xs ys : List X) → P S (c xs) → P T (c ys) → P (alt S T) (c (xs ++ ys))
     one_of S T xs ys h k = subst (λ n. P (alt S T) n) (sym (joins xs ys)) (alt_has S T (c xs) (c ys) h k)
 
-    part : (S : Shape) (ps : Parts) (xs ys : List ℕ) → P S (c xs) → Ps ps (c ys) → Ps (Part S ps) (c (xs ++ ys))
+    part : (S : Shape) (ps : Parts) (xs ys : List X) → P S (c xs) → Ps ps (c ys) → Ps (Part S ps) (c (xs ++ ys))
     part S ps xs ys h k = subst (λ n. Ps (Part S ps) n) (sym (joins xs ys)) (w.some S ps (c xs) (c ys) h k)
 
     mutual
-      pub expression_has : (e : Expr) → P (shape p e) (c (sites_of e))
+      pub expression_has : (e : Expr) → P (shape p e) (c (gathered g e))
       expression_has (dereference t a) = expression_has a
       expression_has (load t a) = expression_has a
       expression_has (address_of t a) = expression_has a
@@ -105,70 +104,72 @@ module _ (P : Shape → ℕ → Type 0) (Ps : Parts → ℕ → Type 0) (w : Spr
       expression_has (field t first a) = expression_has a
       expression_has (unary_operation t op a) = expression_has a
       expression_has (conversion t to a) = expression_has a
-      expression_has (arithmetic t op a b) = two (shape p a) (shape p b) (sites_of a) (sites_of b) (expression_has a) (expression_has b)
-      expression_has (comparison t op a b) = two (shape p a) (shape p b) (sites_of a) (sites_of b) (expression_has a) (expression_has b)
-      expression_has (pointer_add t first subtracted a b) = two (shape p a) (shape p b) (sites_of a) (sites_of b) (expression_has a) (expression_has b)
-      expression_has (pointer_diff t a b) = two (shape p a) (shape p b) (sites_of a) (sites_of b) (expression_has a) (expression_has b)
-      expression_has (and t a b) = two (shape p a) (alt (shape p b) Skip) (sites_of a) (sites_of b) (expression_has a) (or_skip (shape p b) (c (sites_of b)) (expression_has b))
-      expression_has (or t a b) = two (shape p a) (alt (shape p b) Skip) (sites_of a) (sites_of b) (expression_has a) (or_skip (shape p b) (c (sites_of b)) (expression_has b))
-      expression_has (assign t a b) = two (shape p a) (shape p b) (sites_of a) (sites_of b) (expression_has a) (expression_has b)
-      expression_has (update t op old a b) = two (shape p a) (shape p b) (sites_of a) (sites_of b) (expression_has a) (expression_has b)
-      expression_has (conditional t e a b) = two (shape p e) (alt (shape p a) (shape p b)) (sites_of e) (sites_of a ++ sites_of b) (expression_has e) (one_of (shape p a) (shape p b) (sites_of a) (sites_of b) (expression_has a) (expression_has b))
-      expression_has (comma t es) = seq_has (shapes_before p es End) (c (sites_of_all es)) (w.parts_more (shapes_before p es End) (c (sites_of_all es) + 0) (c (sites_of_all es)) (expressions_have es End 0 (w.none 0)) (omega arith))
+      expression_has (arithmetic t op a b) = two (shape p a) (shape p b) (gathered g a) (gathered g b) (expression_has a) (expression_has b)
+      expression_has (comparison t op a b) = two (shape p a) (shape p b) (gathered g a) (gathered g b) (expression_has a) (expression_has b)
+      expression_has (pointer_add t first subtracted a b) = two (shape p a) (shape p b) (gathered g a) (gathered g b) (expression_has a) (expression_has b)
+      expression_has (pointer_diff t a b) = two (shape p a) (shape p b) (gathered g a) (gathered g b) (expression_has a) (expression_has b)
+      expression_has (and t a b) = two (shape p a) (alt (shape p b) Skip) (gathered g a) (gathered g b) (expression_has a) (or_skip (shape p b) (c (gathered g b)) (expression_has b))
+      expression_has (or t a b) = two (shape p a) (alt (shape p b) Skip) (gathered g a) (gathered g b) (expression_has a) (or_skip (shape p b) (c (gathered g b)) (expression_has b))
+      expression_has (assign t a b) = two (shape p a) (shape p b) (gathered g a) (gathered g b) (expression_has a) (expression_has b)
+      expression_has (update t op old a b) = two (shape p a) (shape p b) (gathered g a) (gathered g b) (expression_has a) (expression_has b)
+      expression_has (conditional t e a b) = two (shape p e) (alt (shape p a) (shape p b)) (gathered g e) (gathered g a ++ gathered g b) (expression_has e) (one_of (shape p a) (shape p b) (gathered g a) (gathered g b) (expression_has a) (expression_has b))
+      expression_has (comma t es) = seq_has (shapes_before p es End) (c (gathered_all g es)) (w.parts_more (shapes_before p es End) (c (gathered_all g es) + 0) (c (gathered_all g es)) (expressions_have es End 0 (w.none 0)) (omega arith))
       expression_has (call t s f es) =
           let d = direct_call p s f es in
-          let k = joins (s ∷ []) (sites_of_all es) in
-          seq_has (shapes_before p es (Part d End)) (c (s ∷ sites_of_all es)) (w.parts_more (shapes_before p es (Part d End)) (c (sites_of_all es) + c (s ∷ [])) (c (s ∷ sites_of_all es)) (expressions_have es (Part d End) (c (s ∷ [])) (last_has d (c (s ∷ [])) (direct s f es))) (omega (arith, k)))
+          let x = g.direct s f in
+          let k = joins (x ∷ []) (gathered_all g es) in
+          seq_has (shapes_before p es (Part d End)) (c (x ∷ gathered_all g es)) (w.parts_more (shapes_before p es (Part d End)) (c (gathered_all g es) + c (x ∷ [])) (c (x ∷ gathered_all g es)) (expressions_have es (Part d End) (c (x ∷ [])) (last_has d (c (x ∷ [])) (direct s f es))) (omega (arith, k)))
       expression_has (call_through t s a es) =
           let d = marked_call p s (Through (type_of a)) in
-          let k = joins (s ∷ []) (sites_of_all es) in
-          seq_has (Part (shape p a) (shapes_before p es (Part d End))) (c (sites_of a ++ (s ∷ sites_of_all es))) (part (shape p a) (shapes_before p es (Part d End)) (sites_of a) (s ∷ sites_of_all es) (expression_has a) (w.parts_more (shapes_before p es (Part d End)) (c (sites_of_all es) + c (s ∷ [])) (c (s ∷ sites_of_all es)) (expressions_have es (Part d End) (c (s ∷ [])) (last_has d (c (s ∷ [])) (through s (Through (type_of a))))) (omega (arith, k))))
-      expression_has e = w.skip (c [])
+          let x = g.through s (type_of a) in
+          let k = joins (x ∷ []) (gathered_all g es) in
+          seq_has (Part (shape p a) (shapes_before p es (Part d End))) (c (gathered g a ++ (x ∷ gathered_all g es))) (part (shape p a) (shapes_before p es (Part d End)) (gathered g a) (x ∷ gathered_all g es) (expression_has a) (w.parts_more (shapes_before p es (Part d End)) (c (gathered_all g es) + c (x ∷ [])) (c (x ∷ gathered_all g es)) (expressions_have es (Part d End) (c (x ∷ [])) (last_has d (c (x ∷ [])) (marked_has p s (Through (type_of a)) (c (x ∷ [])) (called_through s (type_of a))))) (omega (arith, k))))
+      expression_has e = w.skip (c (gathered g e))
 
-      expressions_have : (es : Exprs) (ps : Parts) (n : ℕ) → Ps ps n → Ps (shapes_before p es ps) (c (sites_of_all es) + n)
+      expressions_have : (es : Exprs) (ps : Parts) (n : ℕ) → Ps ps n → Ps (shapes_before p es ps) (c (gathered_all g es) + n)
       expressions_have no_exprs ps n h = w.parts_more ps n (c [] + n) h (omega arith)
       expressions_have (more_exprs e es) ps n h =
-          let k = joins (sites_of e) (sites_of_all es) in
-          w.parts_more (Part (shape p e) (shapes_before p es ps)) (c (sites_of e) + (c (sites_of_all es) + n)) (c (sites_of e ++ sites_of_all es) + n) (w.some (shape p e) (shapes_before p es ps) (c (sites_of e)) (c (sites_of_all es) + n) (expression_has e) (expressions_have es ps n h)) (omega (arith, k))
+          let k = joins (gathered g e) (gathered_all g es) in
+          w.parts_more (Part (shape p e) (shapes_before p es ps)) (c (gathered g e) + (c (gathered_all g es) + n)) (c (gathered g e ++ gathered_all g es) + n) (w.some (shape p e) (shapes_before p es ps) (c (gathered g e)) (c (gathered_all g es) + n) (expression_has e) (expressions_have es ps n h)) (omega (arith, k))
 
-    pub maybe_has : (m : Maybe) → P (shape_of_maybe p m) (c (sites_of_maybe m))
+    pub maybe_has : (m : Maybe) → P (shape_of_maybe p m) (c (gathered_maybe g m))
     maybe_has absent = w.skip (c [])
     maybe_has (there e) = expression_has e
 
-    pub inits_have : (is : Inits) → Ps (shapes_of_inits p is) (c (sites_of_inits is))
+    pub inits_have : (is : Inits) → Ps (shapes_of_inits p is) (c (gathered_inits g is))
     inits_have no_inits = w.none (c [])
-    inits_have (more_inits cell e is) = part (shape p e) (shapes_of_inits p is) (sites_of e) (sites_of_inits is) (expression_has e) (inits_have is)
+    inits_have (more_inits cell e is) = part (shape p e) (shapes_of_inits p is) (gathered g e) (gathered_inits g is) (expression_has e) (inits_have is)
 
     module _ (v : Stands P Ps) where
       mutual
-        pub tree_has : (s : Stmt) → P (shape_of_stmt p s) (c (sites_of_stmt s))
-        tree_has (block ss) = seq_has (shapes_of_stmts p ss) (c (sites_of_stmts ss)) (trees_have ss)
+        pub tree_has : (s : Stmt) → P (shape_of_stmt p s) (c (gathered_stmt g s))
+        tree_has (block ss) = seq_has (shapes_of_stmts p ss) (c (gathered_stmts g ss)) (trees_have ss)
         tree_has empty = w.skip (c [])
         tree_has (evaluate e) = expression_has e
-        tree_has (declare x is) = seq_has (shapes_of_inits p is) (c (sites_of_inits is)) (inits_have is)
-        tree_has (if_else e s u) = two (shape p e) (alt (shape_of_stmt p s) (shape_of_stmt p u)) (sites_of e) (sites_of_stmt s ++ sites_of_stmt u) (expression_has e) (one_of (shape_of_stmt p s) (shape_of_stmt p u) (sites_of_stmt s) (sites_of_stmt u) (tree_has s) (tree_has u))
+        tree_has (declare x is) = seq_has (shapes_of_inits p is) (c (gathered_inits g is)) (inits_have is)
+        tree_has (if_else e s u) = two (shape p e) (alt (shape_of_stmt p s) (shape_of_stmt p u)) (gathered g e) (gathered_stmt g s ++ gathered_stmt g u) (expression_has e) (one_of (shape_of_stmt p s) (shape_of_stmt p u) (gathered_stmt g s) (gathered_stmt g u) (tree_has s) (tree_has u))
         tree_has (while_loop e s) =
-            let k = joins (sites_of e) (sites_of_stmt s) in
-            w.more (Loop (shape p e) (shape_of_stmt p s) Skip) (c (sites_of e) + c (sites_of_stmt s) + 0) (c (sites_of e ++ sites_of_stmt s)) (v.loop (shape p e) (shape_of_stmt p s) Skip (c (sites_of e)) (c (sites_of_stmt s)) 0 (expression_has e) (tree_has s) (w.skip 0)) (omega (arith, k))
-        tree_has (do_loop s e) = subst (λ n. P (Do (shape_of_stmt p s) (shape p e)) n) (sym (joins (sites_of_stmt s) (sites_of e))) (v.until (shape_of_stmt p s) (shape p e) (c (sites_of_stmt s)) (c (sites_of e)) (tree_has s) (expression_has e))
+            let k = joins (gathered g e) (gathered_stmt g s) in
+            w.more (Loop (shape p e) (shape_of_stmt p s) Skip) (c (gathered g e) + c (gathered_stmt g s) + 0) (c (gathered g e ++ gathered_stmt g s)) (v.loop (shape p e) (shape_of_stmt p s) Skip (c (gathered g e)) (c (gathered_stmt g s)) 0 (expression_has e) (tree_has s) (w.skip 0)) (omega (arith, k))
+        tree_has (do_loop s e) = subst (λ n. P (Do (shape_of_stmt p s) (shape p e)) n) (sym (joins (gathered_stmt g s) (gathered g e))) (v.until (shape_of_stmt p s) (shape p e) (c (gathered_stmt g s)) (c (gathered g e)) (tree_has s) (expression_has e))
         tree_has (for_loop first test step s) =
             let l = Loop (shape_of_maybe p test) (shape_of_stmt p s) (shape_of_maybe p step) in
-            let k = joins (sites_of_maybe test) (sites_of_maybe step ++ sites_of_stmt s) in
-            let i = joins (sites_of_maybe step) (sites_of_stmt s) in
-            two (seq (shapes_of_stmts p first)) l (sites_of_stmts first) (sites_of_maybe test ++ (sites_of_maybe step ++ sites_of_stmt s)) (seq_has (shapes_of_stmts p first) (c (sites_of_stmts first)) (trees_have first)) (w.more l (c (sites_of_maybe test) + c (sites_of_stmt s) + c (sites_of_maybe step)) (c (sites_of_maybe test ++ (sites_of_maybe step ++ sites_of_stmt s))) (v.loop (shape_of_maybe p test) (shape_of_stmt p s) (shape_of_maybe p step) (c (sites_of_maybe test)) (c (sites_of_stmt s)) (c (sites_of_maybe step)) (maybe_has test) (tree_has s) (maybe_has step)) (omega (arith, k, i)))
-        tree_has (switch_on e gs) = two (shape p e) (Cases (shapes_of_groups p gs) (has_default gs)) (sites_of e) (sites_of_groups gs) (expression_has e) (v.cases (shapes_of_groups p gs) (has_default gs) (c (sites_of_groups gs)) (groups_of_trees gs))
+            let k = joins (gathered_maybe g test) (gathered_maybe g step ++ gathered_stmt g s) in
+            let i = joins (gathered_maybe g step) (gathered_stmt g s) in
+            two (seq (shapes_of_stmts p first)) l (gathered_stmts g first) (gathered_maybe g test ++ (gathered_maybe g step ++ gathered_stmt g s)) (seq_has (shapes_of_stmts p first) (c (gathered_stmts g first)) (trees_have first)) (w.more l (c (gathered_maybe g test) + c (gathered_stmt g s) + c (gathered_maybe g step)) (c (gathered_maybe g test ++ (gathered_maybe g step ++ gathered_stmt g s))) (v.loop (shape_of_maybe p test) (shape_of_stmt p s) (shape_of_maybe p step) (c (gathered_maybe g test)) (c (gathered_stmt g s)) (c (gathered_maybe g step)) (maybe_has test) (tree_has s) (maybe_has step)) (omega (arith, k, i)))
+        tree_has (switch_on e gs) = two (shape p e) (Cases (shapes_of_groups p gs) (has_default gs)) (gathered g e) (gathered_groups g gs) (expression_has e) (v.cases (shapes_of_groups p gs) (has_default gs) (c (gathered_groups g gs)) (groups_of_trees gs))
         tree_has break_off = v.breaks (c [])
         tree_has continue_on = v.continues (c [])
         tree_has return_void = v.returns (c [])
-        tree_has (return_value e) = w.more (seq_two (shape p e) Return) (c (sites_of e) + 0) (c (sites_of e)) (seq_two_has (shape p e) Return (c (sites_of e)) 0 (expression_has e) (v.returns 0)) (omega arith)
+        tree_has (return_value e) = w.more (seq_two (shape p e) Return) (c (gathered g e) + 0) (c (gathered g e)) (seq_two_has (shape p e) Return (c (gathered g e)) 0 (expression_has e) (v.returns 0)) (omega arith)
 
-        trees_have : (ss : Stmts) → Ps (shapes_of_stmts p ss) (c (sites_of_stmts ss))
+        trees_have : (ss : Stmts) → Ps (shapes_of_stmts p ss) (c (gathered_stmts g ss))
         trees_have no_stmts = w.none (c [])
-        trees_have (more_stmts s ss) = part (shape_of_stmt p s) (shapes_of_stmts p ss) (sites_of_stmt s) (sites_of_stmts ss) (tree_has s) (trees_have ss)
+        trees_have (more_stmts s ss) = part (shape_of_stmt p s) (shapes_of_stmts p ss) (gathered_stmt g s) (gathered_stmts g ss) (tree_has s) (trees_have ss)
 
-        groups_of_trees : (gs : Groups) → Ps (shapes_of_groups p gs) (c (sites_of_groups gs))
+        groups_of_trees : (gs : Groups) → Ps (shapes_of_groups p gs) (c (gathered_groups g gs))
         groups_of_trees no_groups = w.none (c [])
-        groups_of_trees (more_groups ls ss gs) = part (seq (shapes_of_stmts p ss)) (shapes_of_groups p gs) (sites_of_stmts ss) (sites_of_groups gs) (seq_has (shapes_of_stmts p ss) (c (sites_of_stmts ss)) (trees_have ss)) (groups_of_trees gs)
+        groups_of_trees (more_groups ls ss gs) = part (seq (shapes_of_stmts p ss)) (shapes_of_groups p gs) (gathered_stmts g ss) (gathered_groups g gs) (seq_has (shapes_of_stmts p ss) (c (gathered_stmts g ss)) (trees_have ss)) (groups_of_trees gs)
 
 -- expressions are never left but at their end
 expressions_spread : Spreads (λ S n. IsExpression S) (λ ps n. AreExpressions ps)
@@ -178,13 +179,13 @@ system_expression : (x : ℕ) (q : List (Option ℤ)) (b : Bool) → IsExpressio
 system_expression x q b = if_has IsExpression b (Exit q) (Sys x q) (λ h. tt) (λ h. tt)
 
 pub expression : (p : Program) (e : Expr) → IsExpression (shape p e)
-expression p e = expression_has (λ S n. IsExpression S) (λ ps n. AreExpressions ps) expressions_spread (λ xs. 0) (λ xs ys. refl) p (λ s. tt) (λ x es n. system_expression x (pattern_of x es) (nat_eq x exit_call)) e
+expression p e = expression_has (λ S n. IsExpression S) (λ ps n. AreExpressions ps) expressions_spread all_sites (λ xs. 0) (λ xs ys. refl) p (λ s f h. tt) (λ s t h. tt) (λ s f es h k. system_expression (f - defined p) (pattern_of (f - defined p) es) (nat_eq (f - defined p) exit_call)) e
 
 pub expression_of_maybe : (p : Program) (m : Maybe) → IsExpression (shape_of_maybe p m)
-expression_of_maybe p m = maybe_has (λ S n. IsExpression S) (λ ps n. AreExpressions ps) expressions_spread (λ xs. 0) (λ xs ys. refl) p (λ s. tt) (λ x es n. system_expression x (pattern_of x es) (nat_eq x exit_call)) m
+expression_of_maybe p m = maybe_has (λ S n. IsExpression S) (λ ps n. AreExpressions ps) expressions_spread all_sites (λ xs. 0) (λ xs ys. refl) p (λ s f h. tt) (λ s t h. tt) (λ s f es h k. system_expression (f - defined p) (pattern_of (f - defined p) es) (nat_eq (f - defined p) exit_call)) m
 
 expressions_of_inits : (p : Program) (is : Inits) → AreExpressions (shapes_of_inits p is)
-expressions_of_inits p is = inits_have (λ S n. IsExpression S) (λ ps n. AreExpressions ps) expressions_spread (λ xs. 0) (λ xs ys. refl) p (λ s. tt) (λ x es n. system_expression x (pattern_of x es) (nat_eq x exit_call)) is
+expressions_of_inits p is = inits_have (λ S n. IsExpression S) (λ ps n. AreExpressions ps) expressions_spread all_sites (λ xs. 0) (λ xs ys. refl) p (λ s f h. tt) (λ s t h. tt) (λ s f es h k. system_expression (f - defined p) (pattern_of (f - defined p) es) (nat_eq (f - defined p) exit_call)) is
 
 -- statements that are well-typed have their breaks and continues in loops and switches
 statements_spread : (b c : Bool) → Spreads (λ S n. IsStatement S b c) (λ ps n. AreStatements ps b c)
@@ -246,7 +247,7 @@ calls_stand : Stands (λ S n. HasRightCalls S) (λ ps n. HaveRightCalls ps)
 calls_stand = record { loop = λ C B T l m n h i k. (h, i, k); until = λ B C m n h k. (h, k); cases = λ ps d n h. h; breaks = λ n. tt; continues = λ n. tt; returns = λ n. tt }
 
 pub right_stmt : (p : Program) (s : Stmt) → HasRightCalls (shape_of_stmt p s)
-right_stmt p s = tree_has (λ S n. HasRightCalls S) (λ ps n. HaveRightCalls ps) calls_spread (λ xs. 0) (λ xs ys. refl) p (λ s. tt) (λ x es n. right_system x (pattern_of x es) (patterns_right x es)) calls_stand s
+right_stmt p s = tree_has (λ S n. HasRightCalls S) (λ ps n. HaveRightCalls ps) calls_spread all_sites (λ xs. 0) (λ xs ys. refl) p (λ s f h. tt) (λ s t h. tt) (λ s f es h k. right_system (f - defined p) (pattern_of (f - defined p) es) (patterns_right (f - defined p) es)) calls_stand s
 
 -- a system call as a function
 any_right : (kinds : List ArgKind) → AllZip FitsEntry kinds (map (λ kind. None) kinds)

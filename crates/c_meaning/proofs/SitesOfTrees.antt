@@ -1,5 +1,5 @@
 -- A site stands at most as often in a shape as in its tree.
-use Rattle.std.proofs.Common.{◌≡◌, ◌≢◌, ℕ, zero, suc, ◌+◌, ◌<◌, ◌≤◌, Bool, true, false, nat_eq, if◌then◌else◌, List, [], ◌∷◌, ◌++◌, map, flat_map, Contains, AllPairs, Option, None, ℤ, inl, inr, sym, ap, ◌∙◌, subst, refl, arith}
+use Rattle.std.proofs.Common.{◌≡◌, ◌≢◌, ℕ, zero, suc, ◌+◌, ◌-◌, ◌<◌, ◌≤◌, Bool, nat_eq, if◌then◌else◌, List, [], ◌∷◌, ◌++◌, map, flat_map, Contains, AllPairs, Option, None, ℤ, inl, inr, sym, ap, ◌∙◌, subst, refl, arith}
 use Rattle.std.proofs.lemmas.Grind.{flat_map-append}
 use Rattle.std.specs.List.{range_with_len}
 use Rattle.std.specs.Cmp.{nat_eq_equiv}
@@ -8,26 +8,18 @@ use Rattle.sys_table.specs.Table.{recorded_of}
 use Rattle.c_meaning.specs.Tree.{Stmt}
 use Rattle.c_meaning.specs.Tree.{Function, Program}
 use Rattle.c_meaning.specs.Constants.{pattern_of}
-use Rattle.c_meaning.specs.Sites.{sites_of_stmt, sites_of_function, sites_of_program}
+use Rattle.c_meaning.specs.Functions.{defined}
+use Rattle.c_meaning.specs.Sites.{all_sites, sites_of_stmt, sites_of_function, sites_of_program}
 use Rattle.c_meaning.specs.Shape.{Shape, Sys, Exit, Parts, Part, exit_call}
 use Rattle.c_meaning.specs.ShapeOf.{shape_of_stmt, shape_of_function, any_call}
-use Rattle.c_meaning.proofs.Members.{other_number}
+use Rattle.c_meaning.proofs.Lists.{other_number, if_has, one, counted, counted_append}
 use Rattle.c_meaning.specs.Premises.{sites, sites_of_parts}
-use Rattle.c_meaning.proofs.ShapesOfTrees.{Spreads, Stands, if_has, tree_has}
+use Rattle.c_meaning.proofs.ShapesOfTrees.{Spreads, Stands, tree_has}
 use Rattle.c_meaning.proofs.Rising.{pairs_cons, pairs_nil}
-
-abbrev one : Bool → ℕ
-one true = 1
-one false = 0
 
 -- how often the site stands in the list
 abbrev pub often : ℕ → List ℕ → ℕ
-often s [] = 0
-often s (r ∷ rs) = one (nat_eq s r) + often s rs
-
-often_append : (s : ℕ) (xs ys : List ℕ) → often s (xs ++ ys) ≡ often s xs + often s ys
-often_append s [] ys = omega arith
-often_append s (r ∷ rs) ys = let k = often_append s rs ys in omega (arith, k)
+often s rs = counted (nat_eq s) rs
 
 -- the same for shapes
 abbrev at : ℕ → Shape → ℕ
@@ -37,7 +29,7 @@ abbrev at_parts : ℕ → Parts → ℕ
 at_parts s ps = often s (sites_of_parts ps)
 
 at_part : (s : ℕ) (S : Shape) (ps : Parts) → at_parts s (Part S ps) ≡ at s S + at_parts s ps
-at_part s S ps = often_append s (sites S) (sites_of_parts ps)
+at_part s S ps = counted_append (nat_eq s) (sites S) (sites_of_parts ps)
 
 at_system : (s x : ℕ) (q : List (Option ℤ)) (b : Bool) → at s (if b then Exit q else Sys x q) ≡ 0
 at_system s x q b = if_has (λ S. at s S ≡ 0) b (Exit q) (Sys x q) (λ h. refl) (λ h. refl)
@@ -50,15 +42,15 @@ few_spread s = record {
   some = λ S ps m n h k. let i = at_part s S ps in omega (arith, h, k, i);
   split = λ S ps n h. (at s S, at_parts s ps, (let i = at_part s S ps in omega (arith, h, i)), omega arith, omega arith);
   row = λ S ps n h. h;
-  either = λ S T m n h k. let i = often_append s (sites S) (sites T) in omega (arith, h, k, i);
+  either = λ S T m n h k. let i = counted_append (nat_eq s) (sites S) (sites T) in omega (arith, h, k, i);
   more = λ S m n h le. omega (arith, h, le);
   parts_more = λ ps m n h le. omega (arith, h, le);
 }
 
 few_stand : (s : ℕ) → Stands (λ S n. at s S ≤ n) (λ ps n. at_parts s ps ≤ n)
 few_stand s = record {
-  loop = λ C B T l m n h i k. let j = often_append s (sites C) (sites B ++ sites T) in let q = often_append s (sites B) (sites T) in omega (arith, h, i, k, j, q);
-  until = λ B C m n h k. let i = often_append s (sites B) (sites C) in omega (arith, h, k, i);
+  loop = λ C B T l m n h i k. let j = counted_append (nat_eq s) (sites C) (sites B ++ sites T) in let q = counted_append (nat_eq s) (sites B) (sites T) in omega (arith, h, i, k, j, q);
+  until = λ B C m n h k. let i = counted_append (nat_eq s) (sites B) (sites C) in omega (arith, h, k, i);
   cases = λ ps d n h. h;
   breaks = λ n. omega arith;
   continues = λ n. omega arith;
@@ -67,13 +59,13 @@ few_stand s = record {
 
 module _ (p : Program) (s : ℕ) where
   in_stmt : (u : Stmt) → at s (shape_of_stmt p u) ≤ often s (sites_of_stmt u)
-  in_stmt u = tree_has (λ S n. at s S ≤ n) (λ ps n. at_parts s ps ≤ n) (few_spread s) (often s) (often_append s) p (λ r. omega arith) (λ x es n. let k = at_system s x (pattern_of x es) (nat_eq x exit_call) in omega (arith, k)) (few_stand s) u
+  in_stmt u = tree_has (λ S n. at s S ≤ n) (λ ps n. at_parts s ps ≤ n) (few_spread s) all_sites (often s) (counted_append (nat_eq s)) p (λ r f h. omega arith) (λ r t h. omega arith) (λ r f es h i. let k = at_system s (f - defined p) (pattern_of (f - defined p) es) (nat_eq (f - defined p) exit_call) in omega (arith, k)) (few_stand s) u
 
   at_functions : (fs : List Function) → often s (flat_map sites (map (shape_of_function p) fs)) ≤ often s (flat_map sites_of_function fs)
   at_functions [] = omega arith
   at_functions (f ∷ fs) =
-      let k = often_append s (sites (shape_of_function p f)) (flat_map sites (map (shape_of_function p) fs)) in
-      let j = often_append s (sites_of_function f) (flat_map sites_of_function fs) in
+      let k = counted_append (nat_eq s) (sites (shape_of_function p f)) (flat_map sites (map (shape_of_function p) fs)) in
+      let j = counted_append (nat_eq s) (sites_of_function f) (flat_map sites_of_function fs) in
       let h = in_stmt (f.body) in
       let i = at_functions fs in
       omega (arith, k, j, h, i)
@@ -81,7 +73,7 @@ module _ (p : Program) (s : ℕ) where
   at_calls : (xs : List ℕ) → often s (flat_map sites (map any_call xs)) ≡ 0
   at_calls [] = refl
   at_calls (x ∷ xs) =
-      let k = often_append s (sites (any_call x)) (flat_map sites (map any_call xs)) in
+      let k = counted_append (nat_eq s) (sites (any_call x)) (flat_map sites (map any_call xs)) in
       let h = at_system s x (map (λ kind. None) (recorded_of x)) (nat_eq x exit_call) in
       let i = at_calls xs in
       omega (arith, k, h, i)
@@ -111,7 +103,7 @@ once_in_range s a (suc n) =
 pub sites_differ : (p : Program) (n : ℕ) (xs : List ℕ) → sites_of_program p ≡ range_with_len 0 n → AllPairs (λ s r. s ≢ r) (flat_map sites (map (shape_of_function p) p.functions ++ map any_call xs))
 sites_differ p n xs numbered = differ_from_often (flat_map sites (map (shape_of_function p) p.functions ++ map any_call xs)) (λ s.
     let e = flat_map-append sites (map (shape_of_function p) p.functions) (map any_call xs) in
-    let k = ap (often s) e ∙ often_append s (flat_map sites (map (shape_of_function p) p.functions)) (flat_map sites (map any_call xs)) in
+    let k = ap (often s) e ∙ counted_append (nat_eq s) (flat_map sites (map (shape_of_function p) p.functions)) (flat_map sites (map any_call xs)) in
     let i = at_functions p s p.functions in
     let j = at_calls p s xs in
     let m : often s (flat_map sites_of_function p.functions) ≡ often s (range_with_len 0 n) = ap (often s) numbered in

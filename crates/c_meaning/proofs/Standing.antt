@@ -1,5 +1,5 @@
 -- Parts of what stands in the program.
-use Rattle.std.proofs.Common.{◌≡◌, ℕ, zero, suc, true, List, [], ◌∷◌, ◌++◌, flat_map, Contains, Some, slice_get, ap, ◌∙◌, subst, arith}
+use Rattle.std.proofs.Common.{◌≡◌, ℕ, zero, suc, true, List, [], ◌∷◌, ◌++◌, flat_map, Contains, Some, slice_get, subst}
 use Rattle.std.specs.Cmp.{nat_eq_equiv}
 use Rattle.std.proofs.lemmas.List.Elements.{Contains-append_left, Contains-append_right}
 use Rattle.c_tree.specs.declared.value.Value.TheVariants.{Func}
@@ -7,7 +7,7 @@ use Rattle.c_tree.specs.Tree.{Function, Static, Program}
 use Rattle.c_meaning.specs.Mentions.{Mention, Named, mention_of_cell, mentions_of_function, mentions_of_static, mentions_of_program}
 use Rattle.c_meaning.specs.CallGraph.{has_one, names, is_taken}
 use Rattle.c_meaning.specs.TypedResults.{StandsIn}
-use Rattle.c_meaning.proofs.Members.{or_left, or_right, none_in, is_first}
+use Rattle.c_meaning.proofs.Lists.{one_found, none_in, is_first}
 
 pub left_part : (p : Program) (xs ys : List Mention) → StandsIn p (xs ++ ys) → StandsIn p xs
 left_part p xs ys h m k = h m (Contains-append_left xs ys m k)
@@ -20,14 +20,12 @@ stands_empty p m h = absurd (none_in m h)
 
 -- a name that is contained is found
 named : (f : ℕ) (ms : List Mention) → Contains ms (Named f) → has_one (names f) ms ≡ true
-named f [] h = absurd (none_in (Named f) h)
-named f (m ∷ ms) (zero, less, is) = or_left (names f m) (has_one (names f) ms) (ap (names f) is ∙ nat_eq_equiv.refl f)
-named f (m ∷ ms) (suc k, less, is) = or_right (names f m) (has_one (names f) ms) (named f ms (k, omega (arith, less), is))
+named f ms h = one_found (names f) ms (Named f) h (nat_eq_equiv.refl f)
 
 pub taken_there : (p : Program) (f : ℕ) → StandsIn p (Named f ∷ []) → is_taken p f ≡ true
 taken_there p f h = named f (mentions_of_program p) (h (Named f) (is_first (Named f) []))
 
-in_flat : {A B : Type 0} (f : A → List B) (xs : List A) (k : ℕ) (x : A) (y : B) → slice_get xs k ≡ Some x → Contains (f x) y → Contains (flat_map f xs) y
+pub in_flat : {A B : Type 0} (f : A → List B) (xs : List A) (k : ℕ) (x : A) (y : B) → slice_get xs k ≡ Some x → Contains (f x) y → Contains (flat_map f xs) y
 in_flat f [] k x y e h = absurd (cc)
 in_flat {A} {B} f (z ∷ xs) zero x y e h = let same : x ≡ z = cc in Contains-append_left (f z) (flat_map f xs) y (subst (λ (x : A). Contains (f x) y) same h)
 in_flat f (z ∷ xs) (suc k) x y e h = Contains-append_right (f z) (flat_map f xs) y (in_flat f xs k x y e h)

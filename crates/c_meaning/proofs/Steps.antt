@@ -1,10 +1,11 @@
 -- Steps on values and memory answer rightly, where these are typed.
-use Rattle.std.proofs.Common.{◌≡◌, inl, inr, ℕ, ◌+◌, ◌*◌, ◌<◌, ◌≤◌, nat_lt, nat_le, if◌then◌else◌, Bool, true, false, not, ℤ, pos, negsuc, ◌+ℤ◌, ◌-ℤ◌, neg_ℤ, List, [], ◌∷◌, map, All, Option, Some, None, slice_get, slice_set, length, sym, ap, subst, refl, arith}
+use Rattle.std.proofs.Common.{◌≡◌, inl, inr, ℕ, ◌+◌, ◌*◌, ◌<◌, ◌≤◌, nat_lt, nat_le, if◌then◌else◌, Bool, true, false, not, ℤ, pos, negsuc, ◌+ℤ◌, ◌-ℤ◌, neg_ℤ, List, map, All, Option, Some, None, slice_get, slice_set, length, sym, ap, subst, refl, arith}
 use Rattle.std.specs.List.{AllZip, list_all}
 use Rattle.std.proofs.lemmas.Bool.{false≢true}
 use Rattle.std.proofs.lemmas.Bool.Decides.{nat_tests}
 use Rattle.std.proofs.lemmas.Int.{ints}
-use Rattle.std.proofs.lemmas.List.Elements.{All-nil, All-cons, All-append, All-map, All-weaker}
+use Rattle.std.proofs.lemmas.List.Elements.{All-append, All-map, All-weaker}
+use Rattle.std.proofs.lemmas.List.Sums.{AllPass-from_list_all}
 use Rattle.c_tree.specs.declared.value.IntType.{IntType}
 use Rattle.c_tree.specs.declared.value.IntType.TheVariants as i
 use Rattle.c_tree.specs.declared.value.UnOp.{UnOp}
@@ -33,7 +34,6 @@ use Rattle.c_meaning.specs.Pointers.{pointer as pointed}
 use Rattle.c_meaning.specs.CallGraph.{is_taken}
 use Rattle.c_meaning.specs.StoreTyping.{HasKind, IsCell, IsPlaceAt, IsPlaced, IsTypedMemory}
 use Rattle.c_meaning.proofs.Places.{placed_at, all_get, at_place, int_value, uint_value, pointer_value, get_left, lies_in, repeat_lies, lies_once, member_lies, member_few, scalar_cell, scalar_object, element_object, struct_is, zip_get, zip_set, kind_cell, memory_changed}
-use Rattle.c_meaning.proofs.Members.{and_left, and_right}
 
 -- an answer is what it should be, or one of the kinds U1 to U12
 abbrev pub Right : {A : Type 0} → (A → Type 0) → Answer A → Type 0
@@ -69,8 +69,7 @@ element_right {B} ok q f k = at (nat_lt q.index q.elements) refl
 
 -- what a test finds of each element
 passing : {A : Type 0} (P : A → Type 0) (test : A → Bool) → ((x : A) → test x ≡ true → P x) → (xs : List A) → list_all test xs ≡ true → All P xs
-passing P test f [] h = All-nil P
-passing P test f (x ∷ xs) h = All-cons P x xs (f x (and_left (test x) (list_all test xs) h)) (passing P test f xs (and_right (test x) (list_all test xs) h))
+passing P test f xs h = All-weaker (λ x. test x ≡ true) P f xs (AllPass-from_list_all test xs h)
 
 abbrev is_scalar : CType → Bool
 is_scalar (integer i) = true

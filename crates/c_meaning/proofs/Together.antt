@@ -31,6 +31,14 @@ abbrev pub Whenever : {A : Type 0} → (A → Type 0) → Answer A → Type 0
 Whenever ok (gives a) = ok a
 Whenever ok (undefined kind) = Unit {0}
 
+pub whenever_then : {A B : Type 0} (okA : A → Type 0) (okB : B → Type 0) (r : Answer A) (f : A → Answer B) → Whenever okA r → ((a : A) → okA a → Whenever {A = B} okB (f a)) → Whenever {A = B} okB (and_then r f)
+whenever_then okA okB (gives a) f h k = k a h
+whenever_then okA okB (undefined kind) f h k = tt
+
+pub any_whenever : {A : Type 0} (r : Answer A) → Whenever {A = A} (λ a. Unit {0}) r
+any_whenever (gives a) = tt
+any_whenever (undefined kind) = tt
+
 module _ (known : Objects) (last : ℕ) where
   abbrev pub Hidden : ObjectName → Type 0
   Hidden x = IsHidden known last x
@@ -125,14 +133,6 @@ module _ (known : Objects) (last : ℕ) where
   remembered_does (gives m) q a st more h = (h.0, ap (λ q. remembered q a (with_memory st more)) h.1, h.2, h.3)
   remembered_does (undefined kind) q a st more h = ap (λ q. remembered q a (with_memory st more)) h
 
-  whenever_then : {A B : Type 0} (okA : A → Type 0) (okB : B → Type 0) (r : Answer A) (f : A → Answer B) → Whenever okA r → ((a : A) → okA a → Whenever {A = B} okB (f a)) → Whenever {A = B} okB (and_then r f)
-  whenever_then okA okB (gives a) f h k = k a h
-  whenever_then okA okB (undefined kind) f h k = tt
-
-  any : {A : Type 0} (r : Answer A) → Whenever {A = A} (λ a. Unit {0}) r
-  any (gives a) = tt
-  any (undefined kind) = tt
-
   pub answered_then : {A B : Type 0} (ok : A → Type 0) (r q : Answer A) (st : State) (more : Memory) (f g : A → State → Result B) → q ≡ r → Whenever ok r → ((a : A) → ok a → Does {A = B} more (f a st) (g a (with_memory st more))) → Does {A = B} more (then_do (answered r st) f) (then_do (answered q (with_memory st more)) g)
   answered_then {A} {B} ok r q st more f g e h k = subst (λ q. Does {A = B} more (then_do (answered r st) f) (then_do (answered q (with_memory st more)) g)) (sym e) (at r h)
     where
@@ -177,7 +177,7 @@ module _ (known : Objects) (last : ℕ) where
   room_shown : (m : Memory) (v : Value) (k : ℕ) → Shown v → Whenever {A = Option Pointer} ShownBuffer (room_for m v k)
   room_shown m v zero h = tt
   room_shown m (At q) (suc k) h =
-      whenever_then {A = Object} {B = Option Pointer} (λ o. Unit {0}) ShownBuffer (there (m q.name)) _ (any {A = Object} (there (m q.name))) (λ o u. whenever_then {A = List Value} {B = Option Pointer} (λ o. Unit {0}) ShownBuffer (writable o) _ (any {A = List Value} (writable o)) (λ cells u. room (nat_le (q.index + suc k) q.elements)))
+      whenever_then {A = Object} {B = Option Pointer} (λ o. Unit {0}) ShownBuffer (there (m q.name)) _ (any_whenever {A = Object} (there (m q.name))) (λ o u. whenever_then {A = List Value} {B = Option Pointer} (λ o. Unit {0}) ShownBuffer (writable o) _ (any_whenever {A = List Value} (writable o)) (λ cells u. room (nat_le (q.index + suc k) q.elements)))
     where
       room : (b : Bool) → Whenever {A = Option Pointer} ShownBuffer (if b then gives (Some q) else undefined 12)
       room true = h
@@ -186,11 +186,11 @@ module _ (known : Objects) (last : ℕ) where
 
   request_shown : (x : ℕ) (m : Memory) (vs : List Value) → AllShown vs → Whenever {A = Request} ShownRequest (request x m vs)
   request_shown zero m (a ∷ b ∷ c ∷ []) h =
-      whenever_then {A = ℤ} {B = Request} (λ z. Unit {0}) ShownRequest (number a) _ (any {A = ℤ} (number a)) (λ z u. whenever_then {A = ℕ} {B = Request} (λ z. Unit {0}) ShownRequest (size c) _ (any {A = ℕ} (size c)) (λ n u. whenever_then {A = Option Pointer} {B = Request} ShownBuffer ShownRequest (room_for m b n) _ (room_shown m b n h.1.0) (λ room k. k)))
+      whenever_then {A = ℤ} {B = Request} (λ z. Unit {0}) ShownRequest (number a) _ (any_whenever {A = ℤ} (number a)) (λ z u. whenever_then {A = ℕ} {B = Request} (λ z. Unit {0}) ShownRequest (size c) _ (any_whenever {A = ℕ} (size c)) (λ n u. whenever_then {A = Option Pointer} {B = Request} ShownBuffer ShownRequest (room_for m b n) _ (room_shown m b n h.1.0) (λ room k. k)))
   request_shown (suc zero) m (a ∷ b ∷ c ∷ []) h =
-      whenever_then {A = ℤ} {B = Request} (λ z. Unit {0}) ShownRequest (number a) _ (any {A = ℤ} (number a)) (λ z u. whenever_then {A = ℕ} {B = Request} (λ z. Unit {0}) ShownRequest (size c) _ (any {A = ℕ} (size c)) (λ n u. whenever_then {A = List ℕ} {B = Request} (λ z. Unit {0}) ShownRequest (bytes_of_buffer m b n) _ (any {A = List ℕ} (bytes_of_buffer m b n)) (λ room k. tt)))
+      whenever_then {A = ℤ} {B = Request} (λ z. Unit {0}) ShownRequest (number a) _ (any_whenever {A = ℤ} (number a)) (λ z u. whenever_then {A = ℕ} {B = Request} (λ z. Unit {0}) ShownRequest (size c) _ (any_whenever {A = ℕ} (size c)) (λ n u. whenever_then {A = List ℕ} {B = Request} (λ z. Unit {0}) ShownRequest (bytes_of_buffer m b n) _ (any_whenever {A = List ℕ} (bytes_of_buffer m b n)) (λ room k. tt)))
   request_shown (suc (suc x)) m vs h =
-      whenever_then {A = List Arg} {B = Request} (λ z. Unit {0}) ShownRequest (arguments m vs) _ (any {A = List Arg} (arguments m vs)) (λ xs u. tt)
+      whenever_then {A = List Arg} {B = Request} (λ z. Unit {0}) ShownRequest (arguments m vs) _ (any_whenever {A = List Arg} (arguments m vs)) (λ xs u. tt)
   request_shown x m vs h = tt
 
   filled_where_remembers : (m l : Memory) (buffer : Option Pointer) (bytes : List ℕ) → ShownBuffer buffer → TypedAlike m l → Remembers l (filled_where buffer bytes m) (filled_where buffer bytes l)

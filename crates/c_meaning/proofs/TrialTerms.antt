@@ -1,5 +1,5 @@
 -- Terms of small programs, and what their runs give.
-use Rattle.std.specs.Prelude.{ℕ, ℤ, pos, Bool, true, false, List, [], ◌∷◌, codes}
+use Rattle.std.specs.Prelude.{◌≡◌, ℕ, ℤ, pos, Bool, true, false, List, [], ◌∷◌, map, codes}
 use Rattle.dm_base.specs.declared.event.Event.{Event}
 use Rattle.dm_base.specs.declared.event.Event.TheVariants.{Sys}
 use Rattle.dm_base.specs.declared.outcome.Outcome.TheVariants as outcomes
@@ -23,6 +23,10 @@ run_of variables statics body records turns =
 abbrev pub run_of_two : Stmt → List CType → List Static → Stmt → List SysResult → ℕ → Run
 run_of_two f variables statics body records turns =
     run (record { structs = []; functions = function_with (codes "f") (of_none int) [] f ∷ function_with (codes "main") (of_none int) variables body ∷ []; main = 1; statics = statics }) records turns
+
+-- each of these runs is the one beside it
+abbrev pub AllAre : List (Run × Run) → Type 0
+AllAre ts = map (λ t. t.0) ts ≡ map (λ t. t.1) ts
 
 abbrev pub exits : ℤ → List Event → Run
 exits z t = record { outcome = outcomes.Exit z; trace = t }

@@ -9,10 +9,10 @@ use Rattle.c_parser_phrases.specs.Phrases.{HasSpec, HasDeclarator, HasInit}
 use Rattle.c_parser_phrases.specs.Standing.{IsAt}
 use Rattle.c_syntax_printing.specs.Fails.{Fails}
 use Rattle.c_parser_phrases.specs.Refusing.{bound_of}
-use Rattle.c_syntax_printing.specs.Phrases.{Bound, any, within, fits_any, ASpec, ADeclarator, AnInit, APlainDecl}
+use Rattle.c_syntax_printing.specs.Phrases.{Bound, any, within, fits_any, ADeclarator, AnInit, APlainDecl}
 use Rattle.c_syntax_printing.specs.Declarations.{PartsTail, PartsEnd}
 use Rattle.c_syntax_printing.proofs.Combine.{fails_at}
-use Rattle.c_syntax_printing.proofs.DeclForms.{spec_fails as spec_of_decl_fails, parts_fail, declarator_fails, tail_fails, init_fails, end_fails, no_assign_fails}
+use Rattle.c_syntax_printing.proofs.DeclForms.{parts_fail, declarator_fails, tail_fails, init_fails, end_fails, no_assign_fails}
 use Rattle.c_syntax_printing.proofs.PartFails.{parts_unclosed, next_part_fails, no_decl_left}
 use Rattle.c_parser.proofs.Firsts.{not_at}
 use Rattle.c_parser_phrases.proofs.RefusalsOfDeclarators.{an_init}
@@ -20,9 +20,6 @@ pub use Rattle.c_parser_phrases.proofs.RefusalsOfDeclarators.{a_spec}
 
 pub a_declarator : {room : Room} {e : Declarator} {i j : List Token} → HasDeclarator room e i j → ADeclarator any i j
 a_declarator h = record { depth = _; tree = _; reads = h.reads; named = h.named; ends = h.ends; fits = fits_any }
-
-pub spec_fails : (x : Bound) {i r : List Token} → Fails ASpec i r → Fails (APlainDecl x) i r
-spec_fails x f = spec_of_decl_fails x f
 
 pub first_declarator_fails : (x : Bound) {s : Spec} {i j r : List Token} → HasSpec s i j → Fails (ADeclarator x) j r → Fails (APlainDecl x) i r
 first_declarator_fails x s f = parts_fail x (a_spec s) (declarator_fails x f)

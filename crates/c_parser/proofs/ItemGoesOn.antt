@@ -8,19 +8,19 @@ use Rattle.c_syntax.specs.declared.tree.Declarator.{Declarator as DeclaratorTree
 use Rattle.c_syntax.specs.Tree.{Storage, Spec, Declarator, Maybe, MaybeInit, Item, Tag}
 use Rattle.c_syntax.specs.Tokens.{Is, IsKeyword}
 use Rattle.c_syntax.specs.Specifiers.{ReadsStorage}
-use Rattle.c_syntax.specs.Grammar.{conditional_level, HasName}
+use Rattle.c_syntax.specs.Grammar.{conditional_level, HasName, Declares}
 use Rattle.c_syntax.specs.Statements.{ReadsMaybeInit, ReadsEnumeratorValue, ReadsTag}
 use Rattle.c_parser_phrases.specs.declared.room.Room.{Room}
 use Rattle.c_parser_phrases.specs.Phrases.{HasSpec, HasDeclarator}
 use Rattle.c_parser_phrases.specs.Standing.{IsAt, TookName}
 use Rattle.c_syntax_printing.specs.Opens.{Opens, DeepExpr, DeepDeclarator, DeepInit, DeepParts, DeepDecl, DeepBlock, DeepItem, DeepUnit}
 use Rattle.c_syntax_printing.proofs.PartOpens.{part_declarator_opens, part_init_opens, next_part_opens, decl_opens}
-use Rattle.c_syntax_printing.proofs.UnitOpens.{item_parts_open, item_body_opens, first_item_opens, later_item_opens}
+use Rattle.c_syntax_printing.proofs.UnitOpens.{item_parts_open, item_body_opens, later_item_opens}
 use Rattle.c_syntax_printing.specs.Deep.{DeepDeclarators, DeepMembers, DeepEnumerators}
-use Rattle.c_syntax_printing.proofs.MemberOpens.{first_declarator_opens, later_declarator_opens, first_member_opens, later_member_opens, struct_opens, enumerator_value_opens, later_enumerator_opens, enum_opens}
+use Rattle.c_syntax_printing.proofs.MemberOpens.{later_declarator_opens, later_member_opens, struct_opens, enumerator_value_opens, later_enumerator_opens, enum_opens}
 use Rattle.c_parser.specs.Parsed.{HasMaybeInit, HasDeclarators, HasEnumeratorValue, HasItem}
 use Rattle.c_parser.specs.Nesting.{OpensInBlock}
-use Rattle.c_parser.proofs.Ended.{declares_to, tag_to}
+use Rattle.c_parser.proofs.Ended.{ends_at}
 use Rattle.c_parser.proofs.StmtGoesOn.{opens_at}
 
 -- declarations
@@ -28,25 +28,16 @@ use Rattle.c_parser.proofs.StmtGoesOn.{opens_at}
 pub first_declarator_goes_on : {at p n : ℕ} {s : Spec} {i j q : List Token} → HasSpec s i j → Opens (DeepDeclarator HasName at p n) j q → Opens (DeepDecl at p n) i q
 first_declarator_goes_on s o = decl_opens s.reads (part_declarator_opens o)
 
-pub parts_go_on : {at p n : ℕ} {s : Spec} {i j q : List Token} → HasSpec s i j → Opens (DeepParts at p n) j q → Opens (DeepDecl at p n) i q
-parts_go_on s o = decl_opens s.reads o
-
 pub initialiser_goes_on : {room : Room} {at n : ℕ} {e : Declarator} {t : Token} {i j k q : List Token} → HasDeclarator room e i j → j ≡ t ∷ k → Is ASSIGN t → Opens (DeepInit at room.pairs n) k q → Opens (DeepParts at room.pairs n) i q
-initialiser_goes_on d e h o = part_init_opens (omega arith) (declares_to e d.reads) d.named h o
+initialiser_goes_on d e h o = part_init_opens (omega arith) (ends_at (Declares _ _) e d.reads) d.named h o
 
 pub part_then : {room : Room} {at n : ℕ} {e : Declarator} {v : MaybeInit} {t : Token} {i j k m q : List Token} → HasDeclarator room e i j → HasMaybeInit room v j k → k ≡ t ∷ m → Is COMMA t → Opens (DeepParts at room.pairs n) m q → Opens (DeepParts at room.pairs n) i q
 part_then {room} {v = v} {j = j} d f e h o = next_part_opens (omega arith) d.reads d.named (subst (λ z. ReadsMaybeInit room.pairs v j z) e f.reads) h o
 
 -- members
 
-pub declarator_of_member_goes_on : {at p n : ℕ} {i q : List Token} → Opens (DeepDeclarator HasName at p n) i q → Opens (DeepDeclarators at p n) i q
-declarator_of_member_goes_on o = first_declarator_opens o
-
 pub declarator_then : {room : Room} {at n : ℕ} {e : Declarator} {t : Token} {i j k q : List Token} → HasDeclarator room e i j → j ≡ t ∷ k → Is COMMA t → Opens (DeepDeclarators at room.pairs n) k q → Opens (DeepDeclarators at room.pairs n) i q
-declarator_then d e h o = later_declarator_opens (omega arith) (declares_to e d.reads) d.named h o
-
-pub member_goes_on : {at p n : ℕ} {s : Spec} {i j q : List Token} → HasSpec s i j → Opens (DeepDeclarators at p n) j q → Opens (DeepMembers at p n) i q
-member_goes_on s o = first_member_opens s.reads o
+declarator_then d e h o = later_declarator_opens (omega arith) (ends_at (Declares _ _) e d.reads) d.named h o
 
 pub member_then : {room : Room} {at n : ℕ} {s : Spec} {xs : List DeclaratorTree} {i j k q : List Token} → HasSpec s i j → HasDeclarators room xs j k → Opens (DeepMembers at room.pairs n) k q → Opens (DeepMembers at room.pairs n) i q
 member_then s d o = later_member_opens (omega arith) s.reads d.declarators.reads d.closes o
@@ -66,15 +57,12 @@ enumerator_then {room} {v = v} {j = j} x f e h o = opens_at x.stood (later_enume
     value_to q w = subst (λ z. ReadsEnumeratorValue room.pairs v j z) q w.reads
 
 pub enum_goes_on : {at p n : ℕ} {g : Tag} {t l : Token} {i j k m q : List Token} → i ≡ t ∷ j → IsKeyword ENUM t → ReadsTag g j k → k ≡ l ∷ m → Is LEFT_BRACE l → Opens (DeepEnumerators at p n) m q → Opens (DeepItem at p n) i q
-enum_goes_on e w g f h o = opens_at e (enum_opens w (tag_to f g) h o)
+enum_goes_on e w g f h o = opens_at e (enum_opens w (ends_at (ReadsTag _) f g) h o)
 
 -- declarations and functions at file scope
 
 pub item_declarator_goes_on : {at p n : ℕ} {st : Storage} {s : Spec} {i j k q : List Token} → ReadsStorage st i j → HasSpec s j k → Opens (DeepDeclarator HasName at p n) k q → Opens (DeepItem at p n) i q
 item_declarator_goes_on c s o = item_parts_open c s.reads (part_declarator_opens o)
-
-pub item_parts_go_on : {at p n : ℕ} {st : Storage} {s : Spec} {i j k q : List Token} → ReadsStorage st i j → HasSpec s j k → Opens (DeepParts at p n) k q → Opens (DeepItem at p n) i q
-item_parts_go_on c s o = item_parts_open c s.reads o
 
 pub body_goes_on : {room : Room} {at n : ℕ} {st : Storage} {s : Spec} {e : Declarator} {i j k m q : List Token} → ReadsStorage st i j → HasSpec s j k → HasDeclarator room e k m → IsAt LEFT_BRACE m → Opens (DeepBlock at room.pairs n) (drop 1 m) q → Opens (DeepItem at room.pairs (suc n)) i q
 body_goes_on {m = []} c s d h o = absurd h
@@ -86,9 +74,6 @@ body_then zero l c s d h o = absurd (omega (arith, l))
 body_then (suc n) l c s d h o = body_goes_on c s d h (o n refl)
 
 -- units
-
-pub item_goes_on : {at p n : ℕ} {i q : List Token} → Opens (DeepItem at p n) i q → Opens (DeepUnit at p n) i q
-item_goes_on o = first_item_opens o
 
 pub item_then : {room : Room} {at n : ℕ} {a : Item} {i j q : List Token} → HasItem room a i j → Opens (DeepUnit at room.pairs n) j q → Opens (DeepUnit at room.pairs n) i q
 item_then h o = later_item_opens (omega arith) h.reads o

@@ -13,8 +13,8 @@ use Rattle.c_syntax.specs.declared.tree.Ident.{Ident as Named}
 use Rattle.c_syntax.specs.Tree.{Storage, Spec, Expr, absent, there, Declarator, Stmt, Tag, no_tag, tag, struct_item, enum_item, tag_item, decl_item, function_item, decl}
 use Rattle.c_syntax.specs.Tokens.{Is, IsKeyword, place}
 use Rattle.c_syntax.specs.Specifiers.{ReadsStorage, no_storage_stands, static_stands, extern_stands}
-use Rattle.c_syntax.specs.Grammar.{conditional_level}
-use Rattle.c_syntax.specs.Statements.{last_declarator, next_declarator, last_member, next_member, no_enumerator_value, an_enumerator_value, last_enumerator, next_enumerator, ReadsTag, no_name, a_tag}
+use Rattle.c_syntax.specs.Grammar.{conditional_level, Declares}
+use Rattle.c_syntax.specs.Statements.{last_declarator, next_declarator, last_member, next_member, no_enumerator_value, an_enumerator_value, last_enumerator, next_enumerator, ReadsTag, no_name, a_tag, ReadsEnumerators, ReadsMembers}
 use Rattle.c_syntax.specs.Statements.{a_struct, an_enum, an_enum_with_comma, a_tag_alone, an_item_declaration, a_definition, last_item, next_item}
 use Rattle.c_syntax.specs.View.{ident_of, spec_of, declarator_of}
 use Rattle.c_syntax.specs.UnitView.{maybe_of, stmt_of, parts_of, members_of, enumerators_of, item_at}
@@ -24,7 +24,7 @@ use Rattle.c_parser_phrases.specs.Standing.{TookName}
 use Rattle.c_parser.specs.Lists.{Goes, Rest, ends, goes_on, RestAfterComma, no_comma_stands, after_comma}
 use Rattle.c_parser.specs.Parsed.{HasBlock, HasParts, AreDeclarators, HasDeclarators, AreMembers, HasMembers, AreEnumerators, HasEnumeratorValue, HasEnumerators, brace_follows, comma_follows, HasItem, AreItems}
 use Rattle.c_parser.proofs.ListLemmas.{goes_until}
-use Rattle.c_parser.proofs.Ended.{declares_to, members_to, enumerators_to, tag_to}
+use Rattle.c_parser.proofs.Ended.{ends_at}
 use Rattle.c_parser.proofs.DeclLemmas.{decl_reads}
 
 pub declarator_before : {room : Room} (x : DeclaratorTree) {i j : List Token} → HasDeclarator room (declarator_of x) i j → (more : List DeclaratorTree) (k : List Token) → RestAfterComma (AreDeclarators room) more j k → AreDeclarators room (x ∷ more) i k
@@ -62,7 +62,7 @@ storage_no_longer (extern_stands w) = omega arith
 
 pub is_struct_item : {room : Room} {at : ℕ} {x : Named} {ms : List Member} {t l u : Token} {i j k m n o : List Token} → at ≡ place i → i ≡ t ∷ j → IsKeyword STRUCT t → TookName x j k → k ≡ l ∷ m → Is LEFT_BRACE l → HasMembers room ms m n → n ≡ u ∷ o → Is SEMICOLON u → HasItem room (struct_item at (ident_of x) (members_of ms)) i o
 is_struct_item p q w x r l ms s u = record {
-  reads = rw (p ∙ ap place q, q, x.stood, r) (a_struct w x.names l (members_to (ap (λ x. ms.right ∷ x) s) ms.members.reads) ms.closes u);
+  reads = rw (p ∙ ap place q, q, x.stood, r) (a_struct w x.names l (ends_at (ReadsMembers _ _) (ap (λ x. ms.right ∷ x) s) ms.members.reads) ms.closes u);
   nested = ms.members.nested;
 }
 
@@ -70,8 +70,8 @@ pub is_tag_item : {room : Room} {at : ℕ} {x : Named} {t u : Token} {i j k m : 
 is_tag_item p q w x r u = record { reads = rw (p ∙ ap place q, q, x.stood, r) (a_tag_alone w x.names u); nested = omega arith }
 
 pub is_enum_item : {room : Room} {at : ℕ} {g : Tag} {es : List Enumerator} {t l u : Token} {i j k m n o : List Token} → at ≡ place i → i ≡ t ∷ j → IsKeyword ENUM t → ReadsTag g j k → k ≡ l ∷ m → Is LEFT_BRACE l → HasEnumerators room es m n → n ≡ u ∷ o → Is SEMICOLON u → HasItem room (enum_item at g (enumerators_of es)) i o
-is_enum_item p q w g r l (brace_follows {r = z} es b) s u = record { reads = rw (p ∙ ap place q, q) (an_enum w (tag_to r g) l (enumerators_to (ap (λ x. z ∷ x) s) es.reads) b u); nested = es.nested }
-is_enum_item p q w g r l (comma_follows {c = y} {r = z} es c b) s u = record { reads = rw (p ∙ ap place q, q) (an_enum_with_comma w (tag_to r g) l (enumerators_to (ap (λ x. y ∷ z ∷ x) s) es.reads) c b u); nested = es.nested }
+is_enum_item p q w g r l (brace_follows {r = z} es b) s u = record { reads = rw (p ∙ ap place q, q) (an_enum w (ends_at (ReadsTag _) r g) l (ends_at (ReadsEnumerators _ _) (ap (λ x. z ∷ x) s) es.reads) b u); nested = es.nested }
+is_enum_item p q w g r l (comma_follows {c = y} {r = z} es c b) s u = record { reads = rw (p ∙ ap place q, q) (an_enum_with_comma w (ends_at (ReadsTag _) r g) l (ends_at (ReadsEnumerators _ _) (ap (λ x. y ∷ z ∷ x) s) es.reads) c b u); nested = es.nested }
 
 pub is_decl_item : {room : Room} {at : ℕ} {st : Storage} {s : Spec} {ps : List DeclPart} {i j k m : List Token} → at ≡ place i → ReadsStorage st i j → HasSpec s j k → HasParts room ps k m → HasItem room (decl_item at (decl at st s (parts_of ps))) i m
 is_decl_item p st s ps = record { reads = an_item_declaration p (decl_reads p st s ps); nested = ps.parts.nested }
@@ -81,7 +81,7 @@ block_of {room} {i = i} {j = j} q h = subst (λ z. HasBlock room (stmt_of z) i j
 
 pub is_definition : {room : Room} {at : ℕ} {st : Storage} {s : Spec} {e : Declarator} {b : Stmt} {i j k m n : List Token} → at ≡ place i → ReadsStorage st i j → HasSpec s j k → HasDeclarator room e k m → HasBlock room b m n → HasItem room (function_item at st s e b) i n
 is_definition {m = m} p st s e b = record {
-  reads = rw b.is (a_definition p st s.reads (declares_to b.stood e.reads) e.named b.opens b.reads b.closes);
+  reads = rw b.is (a_definition p st s.reads (ends_at (Declares _ _) b.stood e.reads) e.named b.opens b.reads b.closes);
   nested = rw b.is (omega (arith, e.nested, b.nested));
 }
 

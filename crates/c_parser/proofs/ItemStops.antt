@@ -1,10 +1,10 @@
 -- Where structs, enums, declarations and functions at file scope stop, and units.
 use Rattle.std.proofs.Common.{◌≡◌, ◌≤◌, ◌<◌, ℕ, false, List, [], ◌∷◌, Result, Ok, Err, ◌⊎◌, inl, inr, sym, ap, ◌∙◌, subst, drop, length, arith}
 use Rattle.std.specs.Bool.{◌==◌}
-use Rattle.std.proofs.lemmas.Bool.{cases_lt}
+use Rattle.std.proofs.lemmas.Bool.{cases_eq}
 use Rattle.c_lexer.specs.declared.token.Token.{Token}
 use Rattle.c_lexer.specs.declared.token.TokenKind.{TokenKind}
-use Rattle.c_lexer.specs.declared.token.TokenKind.TheVariants.{Name, Keyword, Int, Char, Str, Punct}
+use Rattle.c_lexer.specs.declared.token.TokenKind.TheVariants.{Keyword}
 use Rattle.c_lexer.specs.declared.punctuator.TheConstants.{ASSIGN, COMMA, LEFT_BRACE, RIGHT_BRACE, SEMICOLON}
 use Rattle.c_lexer.specs.declared.keyword.TheConstants.{ENUM, EXTERN, STATIC, STRUCT}
 use Rattle.c_syntax.specs.declared.tree.Ident.{Ident as Named}
@@ -23,16 +23,16 @@ use Rattle.c_parser_phrases.specs.Phrases.{HasRead, HasSpec, HasDeclarator}
 use Rattle.c_parser_phrases.specs.Standing.{IsAt, IsAtKeyword, TookName}
 use Rattle.c_parser_phrases.specs.Refusing.{bound_of, Stops}
 use Rattle.c_syntax_printing.specs.Fails.{Fails, then, One, one, NotAt}
-use Rattle.c_syntax_printing.specs.Phrases.{Bound, any, Fits, fits_any, fits_within, inner, ASpec, ADeclarator, AnExpr, InBlock, Punctuator}
+use Rattle.c_syntax_printing.specs.Phrases.{Bound, any, Fits, fits_any, fits_within, inner, ADeclarator, AnExpr, InBlock, Punctuator}
 use Rattle.c_syntax_printing.specs.Operands.{IsSomeName}
 use Rattle.c_syntax_printing.specs.Declarations.{PartsTail}
 use Rattle.c_syntax_printing.specs.Units.{AUnit}
 use Rattle.c_syntax_printing.specs.Items.{DeclaratorsClosed, declarators_closed, DeclaratorsEnd, AMember, InStruct, MembersRest, InEnum, EnumEnd, ValueRest, OtherRest, AnOther, AnItem, UnitRest, NoStruct, NoEnum}
 use Rattle.c_syntax_printing.proofs.Combine.{meets_itself, fails_at, fails_first, fails_later, fails_under, fails_further, missing}
 use Rattle.c_syntax_printing.proofs.Fixed.{expr_fixes, spec_fixes, declarator_fixes}
-use Rattle.c_syntax_printing.proofs.ItemFails.{first_declarator_fails, first_declarator_leads, declarators_unclosed, next_declarator_fails, member_fails, member_leads, more_members_fail, members_close, struct_fails, struct_nameless}
+use Rattle.c_syntax_printing.proofs.ItemFails.{first_declarator_leads, declarators_unclosed, next_declarator_fails, more_members_fail, members_close, struct_fails, struct_nameless}
 use Rattle.c_syntax_printing.proofs.ItemFails.{enum_nameless, enumerator_fails, enumerator_value_fails, no_value_fails, enum_unclosed, enum_closes, enum_closes_after_comma, enum_goes_on, enum_tagless, bare_enum_fails, tagged_enum_fails}
-use Rattle.c_syntax_printing.proofs.ItemFails.{storage_fixes, other_fails, other_struct_fails, other_enum_fails, body_fails, no_body_fails, item_fails, item_leads, more_items_fail}
+use Rattle.c_syntax_printing.proofs.ItemFails.{storage_fixes, other_fails, other_struct_fails, other_enum_fails, body_fails, no_body_fails, item_leads, more_items_fail}
 use Rattle.c_parser.specs.Refusing.{AfterStorage}
 use Rattle.c_parser.specs.Starting.{BeginsTagged, BeginsEnum, BeginsOther}
 use Rattle.c_parser.specs.Parsed.{HasDeclarators, HasItem}
@@ -68,20 +68,11 @@ no_ending {i} f = missing i (not_at f)
 
 -- members
 
-pub spec_of_member_fails : (x : Bound) {i r : List Token} → Fails ASpec i r → Fails (AMember x) i r
-spec_of_member_fails x f = fails_first f
-
 pub declarators_of_member_fail : (x : Bound) {s : Spec} {i j r : List Token} → HasSpec s i j → Fails (DeclaratorsClosed x) j r → Fails (AMember x) i r
 declarators_of_member_fail x s f = fails_later spec_fixes (a_spec s) f
 
 pub a_member : {room : Room} {s : Spec} {xs : List DeclaratorTree} {i j k : List Token} → HasSpec s i j → HasDeclarators room xs j k → AMember any i k
 a_member s d = then (a_spec s) (declarators_closed d.declarators.reads d.closes fits_any)
-
-pub first_member_fails : (x : Bound) {i r : List Token} → Fails (AMember x) i r → Fails (InStruct x) i r
-first_member_fails x f = member_fails f
-
-pub first_member_leads : (x : Bound) {i j r : List Token} → AMember any i j → Fails (MembersRest x) j r → Fails (InStruct x) i r
-first_member_leads x a f = member_leads a f
 
 pub next_member_fails : (x : Bound) {i j r : List Token} → j ≡ i → (IsAt RIGHT_BRACE i → ⊥) → Fails (InStruct x) j r → Fails (MembersRest x) i r
 next_member_fails x q n f = more_members_fail (not_at n) (fails_at (sym q) f)
@@ -90,9 +81,6 @@ pub members_closed : (x : Bound) {t : Token} {i j r : List Token} → i ≡ t �
 members_closed x q h f = fails_at q (members_close h f)
 
 -- declarators of a member
-
-pub one_declarator_fails : (x : Bound) {i r : List Token} → Fails (ADeclarator x) i r → Fails (DeclaratorsClosed x) i r
-one_declarator_fails x f = first_declarator_fails f
 
 pub one_declarator_leads : (x : Bound) {room : Room} {e : Declarator} {i j r : List Token} → HasDeclarator room e i j → Fails (DeclaratorsEnd x) j r → Fails (DeclaratorsClosed x) i r
 one_declarator_leads x d f = first_declarator_leads (a_declarator d) f
@@ -179,9 +167,6 @@ no_storage_leads x {i} p q f g w =
     fails_later storage_fixes (record { storage = _; reads = no_storage_stands; ends = no_storage_first i f (λ h. g (subst (λ z. IsAtKeyword EXTERN z) (sym p) h)) })
     (fails_at (sym (q ∙ p)) w)
 
-pub spec_of_item_fails : (x : Bound) {i r : List Token} → Fails ASpec i r → Fails (AfterStorage x) i r
-spec_of_item_fails x f = fails_first f
-
 pub declarator_of_item_fails : (x : Bound) {s : Spec} {i j r : List Token} → HasSpec s i j → Fails (ADeclarator x) j r → Fails (AfterStorage x) i r
 declarator_of_item_fails x s f = fails_later spec_fixes (a_spec s) (fails_first f)
 
@@ -197,24 +182,9 @@ parts_of_item_fail x s d n f = rest_of_item_fails x s d (no_body_fails (not_at n
 
 -- which item stands first
 
-same_or_not : (a b : ℕ) → (a ≡ b) ⊎ (a ≡ b → ⊥)
-same_or_not a b = low (cases_lt a b)
-  where
-    high : b ≤ a → (b < a) ⊎ (a ≤ b) → (a ≡ b) ⊎ (a ≡ b → ⊥)
-    high l (inl m) = inr (λ q. omega (arith, m, q))
-    high l (inr m) = inl (omega (arith, l, m))
-
-    low : (a < b) ⊎ (b ≤ a) → (a ≡ b) ⊎ (a ≡ b → ⊥)
-    low (inl l) = inr (λ q. omega (arith, l, q))
-    low (inr l) = high l (cases_lt b a)
-
 kind_or_not : (word : ℕ) (k : TokenKind) → (k ≡ Keyword word) ⊎ (k ≡ Keyword word → ⊥)
-kind_or_not word (Keyword other) = elim (same_or_not other word) [ inl q ↦ inl (ap Keyword q) | inr f ↦ inr (λ e. f (cc)) ]
-kind_or_not word (Name name) = inr (λ e. cc)
-kind_or_not word (Int n unsigned) = inr (λ e. cc)
-kind_or_not word (Char c) = inr (λ e. cc)
-kind_or_not word (Str bytes) = inr (λ e. cc)
-kind_or_not word (Punct code) = inr (λ e. cc)
+kind_or_not word (Keyword other) = elim (cases_eq other word) [ inl q ↦ inl (ap Keyword q) | inr f ↦ inr (λ e. f (cc)) ]
+kind_or_not word k = inr (λ e. cc)
 
 word_or_not : (word : ℕ) (t : Token) → IsKeyword word t ⊎ (IsKeyword word t → ⊥)
 word_or_not word t = elim (kind_or_not word t.kind) [ inl q ↦ inl (record { kind = q }) | inr f ↦ inr (λ h. f h.kind) ]
@@ -262,9 +232,6 @@ stops_other room i k (Err (Nesting at)) l b s = (s.0, other_item_fails (bound_of
 pub some_left : (i : List Token) → false ≡ (length i == 0) → 0 < length i
 some_left [] q = absurd (cc)
 some_left (t ∷ i) q = omega arith
-
-pub first_item_fails : (x : Bound) {i r : List Token} → Fails (AnItem x) i r → Fails (AUnit x) i r
-first_item_fails x f = item_fails f
 
 pub first_item_leads : (x : Bound) {room : Room} {a : Item} {i j r : List Token} → HasItem room a i j → Fails (UnitRest x) j r → Fails (AUnit x) i r
 first_item_leads x h f = item_leads (record { depth = _; tree = _; reads = h.reads; fits = fits_any }) f

@@ -6,7 +6,6 @@ pub mod StmtLemmas
 pub mod DeclLemmas
 pub mod ItemLemmas
 pub mod UnitLemmas
-pub mod Classes
 pub mod Firsts
 pub mod StmtStops
 pub mod LoopStops

@@ -26,8 +26,8 @@ use Rattle.c_syntax_printing.proofs.Combine.{fails_at, fails_as, fails_first, fa
 use Rattle.c_syntax_printing.proofs.Fixed.{head_alike, expr_fixes}
 use Rattle.c_syntax_printing.proofs.StmtForms.{fits_part, if_form, while_form, do_form, for_form, switch_form, return_form, block_form, break_form, continue_form}
 use Rattle.c_syntax_printing.proofs.BlockForms.{fails_item, fails_items}
-use Rattle.c_syntax_printing.proofs.GroupForms.{switch_goes, labels_fail, group_fails, stmt_fails, rest_fails, ended_fails}
-use Rattle.c_syntax_printing.proofs.PartFails.{default_fails, case_fails, no_labels_begin, more_labels_fail, labels_end_fails, first_decl_fails, first_expr_fails, item_decl_fails, item_stmt_fails, if_needs_two, while_needs_two, do_needs_two, for_needs_two, switch_needs_two}
+use Rattle.c_syntax_printing.proofs.GroupForms.{switch_goes, labels_fail, group_fails, rest_fails, ended_fails}
+use Rattle.c_syntax_printing.proofs.PartFails.{default_fails, case_fails, no_labels_begin, labels_end_fails, first_decl_fails, first_expr_fails, item_decl_fails, item_stmt_fails, if_needs_two, while_needs_two, do_needs_two, for_needs_two, switch_needs_two}
 use Rattle.c_parser_phrases.specs.Refusing.{bound_of}
 use Rattle.c_parser.specs.Refusing.{ABefore}
 use Rattle.c_parser.specs.declared.starts.Compound.{Compound}
@@ -210,9 +210,6 @@ pub group_ends : (i : List Token) → EndsGroup i → head i ≤ 12
 group_ends i (inl b) = brace_next i b
 group_ends i (inr w) = label_next i w
 
-pub next_label_fails : (x : Bound) {i r : List Token} → head i ≤ 12 → Fails (SomeLabels x) i r → Fails (LabelsRest x) i r
-next_label_fails x l f = more_labels_fail l f
-
 -- groups
 
 pub group_labels_fail : (x : Bound) {i r : List Token} → (IsAt RIGHT_BRACE i → ⊥) → Fails (SomeLabels x) i r → Fails (InSwitch x) i r
@@ -238,9 +235,6 @@ group_leads x f ls l carry q g = group_fails x any (no_brace _ f) (some_labels l
 
 -- the first statement of a group
 
-pub first_statement_fails : (x : Bound) {i r : List Token} → Fails (AStmt x) i r → Fails (InGroup x) i r
-first_statement_fails x f = stmt_fails x f
-
 pub first_statement_leads : (x : Bound) {room : Room} {s : Stmt} {i j r : List Token} → HasStmt room s i j → Fails (GroupRest x) j r → Fails (InGroup x) i r
 first_statement_leads x s f = rest_fails x any (a_stmt s) f
 
@@ -253,16 +247,13 @@ group_goes x {i = i} f w = fails_second (λ k j m a. none m (switch_goes x (λ q
 
 -- a statement that holds others or a condition, where there is room for one node alone
 pub compound_is_deep : {p : ℕ} {i : List Token} (form : Compound) → BeginsCompound form i → Fails (AStmt (within p 1)) i i
-compound_is_deep {i = []} c.If h = absurd h
-compound_is_deep {i = []} c.While h = absurd h
-compound_is_deep {i = []} c.Do h = absurd h
-compound_is_deep {i = []} c.For h = absurd h
-compound_is_deep {i = []} c.Switch h = absurd h
 compound_is_deep {i = t ∷ i} c.If h = if_needs_two h
 compound_is_deep {i = t ∷ i} c.While h = while_needs_two h
 compound_is_deep {i = t ∷ i} c.Do h = do_needs_two h
 compound_is_deep {i = t ∷ i} c.For h = for_needs_two h
 compound_is_deep {i = t ∷ i} c.Switch h = switch_needs_two h
+compound_is_deep {i = []} c.If h = absurd h
+compound_is_deep form h = absurd h
 
 pub deep_compound : {room : Room} {i : List Token} (form : Compound) → room.nodes ≡ 1 → BeginsCompound form i → Fails (AStmt (bound_of room)) i i
 deep_compound {room} {i} form q h = subst (λ n. Fails (AStmt (within room.pairs n)) i i) (sym q) (compound_is_deep form h)

@@ -11,7 +11,7 @@ use Rattle.c_syntax.specs.Grammar.{conditional_level, expression_level}
 use Rattle.c_parser_phrases.specs.declared.room.Room.{Room}
 use Rattle.c_parser_phrases.specs.Phrases.{HasRead}
 use Rattle.c_parser_phrases.specs.Standing.{IsAt, IsAtKeyword}
-use Rattle.c_syntax_printing.specs.Opens.{Opens, DeepExpr, DeepDecl, DeepStmt, DeepBlock}
+use Rattle.c_syntax_printing.specs.Opens.{Opens, DeepExpr, DeepStmt, DeepBlock}
 use Rattle.c_syntax_printing.proofs.StmtOpens.{if_test_opens, while_test_opens, evaluation_opens, return_opens, block_opens, after_stmt_opens, after_decl_opens, if_is_deep, while_is_deep, switch_is_deep}
 use Rattle.c_syntax_printing.specs.Deep.{DeepLabels, DeepStmts, DeepGroups}
 use Rattle.c_parser.specs.Nesting.{OpensAfter, OpensInside, OpensInHead}
@@ -20,12 +20,11 @@ use Rattle.c_parser.specs.declared.starts.Compound.{Compound}
 use Rattle.c_parser.specs.declared.starts.Compound.TheVariants as c
 use Rattle.c_parser.specs.Starting.{BeginsCompound}
 use Rattle.c_parser.specs.Parsed.{HasCondition, HasMaybe, HasFirst, HasHead, HasStmt, HasPlainDecl, AreLabels, AreStmts}
-use Rattle.c_parser.proofs.Ended.{reads_to, stmt_to, after_token}
-use Rattle.c_syntax_printing.proofs.BodyOpens.{if_body_opens, while_body_opens, else_opens, do_body_opens, do_test_opens, for_first_opens, for_decl_opens, for_test_opens, for_step_opens, for_body_opens, switch_test_opens, switch_groups_open}
-use Rattle.c_syntax_printing.proofs.BodyOpens.{case_opens, after_case_opens, after_default_opens, first_stmt_opens, later_stmt_opens, group_labels_open, group_stmts_open, later_group_opens, do_is_deep, for_is_deep}
-
-pub opens_at : {A : List Token → List Token → Type 0} {i j q : List Token} → i ≡ j → Opens A j q → Opens A i q
-opens_at {A} {q = q} e o = subst (λ z. Opens A z q) (sym e) o
+use Rattle.c_parser.proofs.Ended.{reads_to, after_token, ends_at}
+use Rattle.c_syntax_printing.proofs.BodyOpens.{if_body_opens, while_body_opens, else_opens, do_body_opens, do_test_opens, for_test_opens, for_step_opens, for_body_opens, switch_test_opens, switch_groups_open}
+use Rattle.c_syntax_printing.proofs.BodyOpens.{case_opens, after_case_opens, after_default_opens, later_stmt_opens, group_labels_open, group_stmts_open, later_group_opens, do_is_deep, for_is_deep}
+use Rattle.c_syntax.specs.Statements.{ReadsStmt}
+pub use Rattle.c_parser_phrases.proofs.Opened.{moved_open as opens_at}
 
 -- conditions
 
@@ -39,7 +38,7 @@ pub if_body : {room : Room} {at n : ℕ} {e : Expr} {i j q : List Token} → Has
 if_body f o t w = opens_at (ap (λ z. t ∷ z) f.stood) (if_body_opens (omega arith) w f.opens f.reads f.closes o)
 
 pub if_else : {room : Room} {at n : ℕ} {e : Expr} {s : Stmt} {u : Token} {i j k m q : List Token} → HasCondition room e i j → HasStmt room s j k → k ≡ u ∷ m → IsKeyword ELSE u → Opens (DeepStmt at room.pairs n) m q → OpensAfter IF at room.pairs n i q
-if_else f s e v o t w = opens_at (ap (λ z. t ∷ z) f.stood) (else_opens (omega arith) w f.opens f.reads f.closes (stmt_to e s.reads) (s.closed (at_word e v)) v o)
+if_else f s e v o t w = opens_at (ap (λ z. t ∷ z) f.stood) (else_opens (omega arith) w f.opens f.reads f.closes (ends_at (ReadsStmt _ _) e s.reads) (s.closed (at_word e v)) v o)
   where
     at_word : {k m : List Token} {u : Token} → k ≡ u ∷ m → IsKeyword ELSE u → IsAtKeyword ELSE k
     at_word q h = subst (λ z. IsAtKeyword ELSE z) (sym q) h
@@ -54,7 +53,7 @@ pub do_body : {at p n : ℕ} {i q : List Token} → Opens (DeepStmt at p n) i q 
 do_body o t w = do_body_opens w o
 
 pub do_test : {room : Room} {at n : ℕ} {s : Stmt} {u : Token} {i j k q : List Token} → HasStmt room s i j → j ≡ u ∷ k → IsKeyword WHILE u → OpensInside at room.pairs n k q → OpensAfter DO at room.pairs n i q
-do_test s e v o t w = do_test_opens (omega arith) w (stmt_to (after_token e o.stood) s.reads) v o.opens o.deep
+do_test s e v o t w = do_test_opens (omega arith) w (ends_at (ReadsStmt _ _) (after_token e o.stood) s.reads) v o.opens o.deep
 
 pub switch_test : {at p n : ℕ} {i q : List Token} → OpensInside at p n i q → OpensAfter SWITCH at p n i q
 switch_test o t w = opens_at (ap (λ z. t ∷ z) o.stood) (switch_test_opens w o.opens o.deep)
@@ -76,12 +75,6 @@ head_step e h f x d t w = opens_at (ap (λ z. t ∷ z) e) (for_step_opens (omega
 pub for_body : {room : Room} {at n : ℕ} (h : ForHead) {i j q : List Token} → HasHead room h i j → Opens (DeepStmt at room.pairs n) j q → OpensAfter FOR at room.pairs n i q
 for_body h v d t w = opens_at (ap (λ z. t ∷ z) v.stood) (for_body_opens (omega arith) w v.opens v.first.reads v.test.reads v.test.closes v.step.reads v.step.closes d)
 
-pub first_declaration : {at p n : ℕ} {i q : List Token} → Opens (DeepDecl at p n) i q → OpensInHead at p n i q
-first_declaration d t o w h = for_decl_opens w h d
-
-pub first_expression : {at p n : ℕ} {i q : List Token} → Opens (DeepExpr at p n expression_level) i q → OpensInHead at p n i q
-first_expression d t o w h = for_first_opens w h d
-
 -- statements by their first tokens
 
 pub after_word : {word at p n : ℕ} {i j q : List Token} → IsAtKeyword word i → j ≡ drop 1 i → OpensAfter word at p n j q → Opens (DeepStmt at p (suc n)) i q
@@ -99,16 +92,13 @@ pub evaluation_goes_on : {at p n : ℕ} {i j q : List Token} → j ≡ i → Ope
 evaluation_goes_on e o = opens_at (sym e) (evaluation_opens o)
 
 pub compound_goes_on : {at p : ℕ} {i : List Token} (form : Compound) → BeginsCompound form i → Opens (DeepStmt at p 1) i i
-compound_goes_on {i = []} c.If h = absurd h
-compound_goes_on {i = []} c.While h = absurd h
-compound_goes_on {i = []} c.Do h = absurd h
-compound_goes_on {i = []} c.For h = absurd h
-compound_goes_on {i = []} c.Switch h = absurd h
 compound_goes_on {i = t ∷ i} c.If h = if_is_deep h
 compound_goes_on {i = t ∷ i} c.While h = while_is_deep h
 compound_goes_on {i = t ∷ i} c.Do h = do_is_deep h
 compound_goes_on {i = t ∷ i} c.For h = for_is_deep h
 compound_goes_on {i = t ∷ i} c.Switch h = switch_is_deep h
+compound_goes_on {i = []} c.If h = absurd h
+compound_goes_on form h = absurd h
 
 -- items of blocks
 
@@ -137,9 +127,6 @@ body_goes_on e l o = opens_at (sym e) (group_stmts_open (omega arith) l.reads o)
 
 pub group_then : {room : Room} {xs : List Label} {ss : List StmtTree} {at n : ℕ} {i j k m q : List Token} → j ≡ i → AreLabels room xs j k → AreStmts room ss k m → Opens (DeepGroups at room.pairs n) m q → Opens (DeepGroups at room.pairs n) i q
 group_then e l s o = opens_at (sym e) (later_group_opens (omega arith) l.reads s.reads o)
-
-pub stmt_first : {at p n : ℕ} {i q : List Token} → Opens (DeepStmt at p n) i q → Opens (DeepStmts at p n) i q
-stmt_first o = first_stmt_opens o
 
 pub stmts_then : {room : Room} {s : Stmt} {at n : ℕ} {i j q : List Token} → HasStmt room s i j → Opens (DeepStmts at room.pairs n) j q → Opens (DeepStmts at room.pairs n) i q
 stmts_then s o = later_stmt_opens (omega arith) s.reads o

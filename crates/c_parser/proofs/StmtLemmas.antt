@@ -11,7 +11,7 @@ use Rattle.c_syntax.specs.declared.tree.Stmt.{Stmt as StmtTree}
 use Rattle.c_syntax.specs.declared.tree.Group.{Group}
 use Rattle.c_syntax.specs.declared.tree.BlockItem.{BlockItem}
 use Rattle.c_syntax.specs.declared.tree.BlockItem.TheVariants.{Declaration, Statement}
-use Rattle.c_syntax.specs.Statements.{ReadsMaybe, no_expression_stands, an_expression_stands}
+use Rattle.c_syntax.specs.Statements.{ReadsMaybe, no_expression_stands, an_expression_stands, ReadsStmt}
 use Rattle.c_syntax.specs.Tree.{Expr, Maybe, absent, there, First, first_absent, first_expr, first_decl, Decl, Groups, more_groups}
 use Rattle.c_syntax.specs.Tree.{Stmt, block, empty, evaluate, only_if, if_else, while_loop, do_loop, for_loop, switch_on, break_off, continue_on, return_from}
 use Rattle.c_syntax.specs.Tokens.{Is, IsKeyword, place}
@@ -29,7 +29,7 @@ use Rattle.c_parser_phrases.specs.Standing.{IsAt, IsAtKeyword}
 use Rattle.c_parser.specs.Lists.{Goes, Rest, ends, goes_on}
 use Rattle.c_parser.specs.Parsed.{HasCondition, HasMaybe, HasPlainDecl, HasFirst, HasHead, AreLabels, HasStmt, HasNode, HasBlock, HasBlockItem, AddsBlockItem, AreBlockItems, AreStmts, AreGroups, HasGroups}
 use Rattle.c_parser.proofs.ListLemmas.{goes_until}
-use Rattle.c_parser.proofs.Ended.{reads_to, stmt_to, after_token}
+use Rattle.c_parser.proofs.Ended.{reads_to, after_token, ends_at}
 use Rattle.c_parser_phrases.specs.declared.error.PhraseError.{PhraseError}
 use Rattle.c_parser.specs.Making.{Makes, Adds}
 use Rattle.c_parser.proofs.RoomLemmas.{IsInside, out_of, stmt_from_word}
@@ -81,7 +81,7 @@ is_if w p c s f = record { reads = rw (p, c.stood) (an_if w c.opens c.reads c.cl
 
 pub is_if_else : {room : Room} {at : ℕ} {e : Expr} {s r : Stmt} {t u : Token} {i j k m n : List Token} → IsKeyword IF t → at ≡ t.from → HasCondition room e i j → HasStmt room s j k → k ≡ u ∷ m → IsKeyword ELSE u → HasStmt room r m n → HasNode room (if_else at e s r) (t ∷ i) n
 is_if_else w p c s q h r = record {
-  reads = rw (p, c.stood) (an_if_else w c.opens c.reads c.closes (stmt_to q s.reads) (s.closed (rw q h)) h r.reads);
+  reads = rw (p, c.stood) (an_if_else w c.opens c.reads c.closes (ends_at (ReadsStmt _ _) q s.reads) (s.closed (rw q h)) h r.reads);
   nested = omega (arith, c.nested, s.nested, r.nested);
   closed = r.closed;
 }
@@ -91,7 +91,7 @@ is_while w p c s = record { reads = rw (p, c.stood) (a_while w c.opens c.reads c
 
 pub is_do : {room : Room} {at : ℕ} {e : Expr} {s : Stmt} {t u v : Token} {i j k m n : List Token} → IsKeyword DO t → at ≡ t.from → HasStmt room s i j → j ≡ u ∷ k → IsKeyword WHILE u → HasCondition room e k m → m ≡ v ∷ n → Is SEMICOLON v → HasNode room (do_loop at s e) (t ∷ i) n
 is_do w p s q h c r v = record {
-  reads = rw p (a_do w (stmt_to (after_token q c.stood) s.reads) h c.opens (reads_to (ap (λ x. c.right ∷ x) r) c.reads) c.closes v);
+  reads = rw p (a_do w (ends_at (ReadsStmt _ _) (after_token q c.stood) s.reads) h c.opens (reads_to (ap (λ x. c.right ∷ x) r) c.reads) c.closes v);
   nested = omega (arith, c.nested, s.nested);
   closed = λ e. tt;
 }

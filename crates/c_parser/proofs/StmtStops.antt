@@ -16,7 +16,7 @@ use Rattle.c_parser_phrases.specs.declared.error.PhraseError.TheVariants.{OutOfM
 use Rattle.c_parser_phrases.specs.Phrases.{HasRead}
 use Rattle.c_parser_phrases.specs.Standing.{IsAt, IsAtKeyword}
 use Rattle.c_syntax_printing.specs.Fails.{Fails, then, first, second}
-use Rattle.c_syntax_printing.specs.Phrases.{Bound, any, within, inner, fits_any, AnExpr, AFirst, AStmt, MaybeExpr, no_expr, InCondition, InSwitch, IfTail, WhileTail, DoTail, ForTail, SwitchTail}
+use Rattle.c_syntax_printing.specs.Phrases.{Bound, any, within, inner, fits_any, AnExpr, AFirst, AStmt, MaybeExpr, no_expr, InCondition, InSwitch, IfTail, DoTail, ForTail, SwitchTail}
 use Rattle.c_syntax_printing.proofs.Combine.{Begins, fails_at, fails_first, fails_after, fails_later, fails_missing, missing, fails_begun, fails_then_more}
 use Rattle.c_syntax_printing.proofs.Fixed.{expr_fixes, stmt_fixes}
 use Rattle.c_syntax_printing.proofs.PartFails.{maybe_fixes, maybe_fails, first_fixes, else_fails}
@@ -88,13 +88,8 @@ adds_none A b i k old new item (Nesting at) p = absurd p
 pub only_memory : {X T : Type 0} (A : Bound → List Token → List Token → Type 0) (b : Bound) (i k : List Token) (old new : List X) (item : X) (result : Result T PhraseError) (e : PhraseError) → IsErr result × IsErrAnd result (λ y. y ≡ e) → Adds (Err e) old new item → Stops A b result i k
 only_memory A b i k old new item result e h p = handed A b i k result e h (adds_none A b i k old new item e p)
 
--- what a last call answers, where it is returned as it is
+-- what a last call answers, where it is returned as it is and the part stands inside one more node
 
-pub stops_as : {T : Type 0} (A B : Bound → List Token → List Token → Type 0) (b : Bound) {i j : List Token} (k : List Token) (result : Result T PhraseError) → ((x : Bound) (r : List Token) → Fails (B x) j r → Fails (A x) i r) → Stops B b result j k → Stops A b result i k
-stops_as A B b k (Ok x) f s = tt
-stops_as A B b k (Err e) f s = refuses_as A B b k e f s
-
--- the same, where the part stands inside one more node
 pub stops_in : {T : Type 0} (A B : Bound → List Token → List Token → Type 0) (room : Room) {inside : Room} {i j : List Token} (k : List Token) (result : Result T PhraseError) → IsInside room inside → ((x : Bound) (r : List Token) → Fails (B (inner x)) j r → Fails (A x) i r) → Stops B (bound_of inside) result j k → Stops A (bound_of room) result i k
 stops_in A B room k (Ok x) n f s = tt
 stops_in A B room {inside} {i} {j} k (Err e) n f s = refuses_on A B (bound_of room) (bound_of inside) k e (f any) (λ r g. f (bound_of room) r (subst (λ z. Fails (B z) j r) (inside_is n) g)) s
@@ -197,23 +192,11 @@ head_begins (then l (then f (then e (then c (then g (then r s)))))) = record { r
 
 -- what stands after the first token of a statement
 
-pub if_head : (x : Bound) {i r : List Token} → Fails (ACondition x) i r → Fails (IfTail x) i r
-if_head x f = in_condition x f
-
 pub if_yes : (x : Bound) {room : Room} {e : Expr} {i j r : List Token} → HasCondition room e i j → Fails (AStmt x) j r → Fails (IfTail x) i r
 if_yes x c f = after_condition x c (fails_first f)
 
 pub if_no : (x : Bound) {room : Room} {e : Expr} {s : Stmt} {t : Token} {i j k m r : List Token} → HasCondition room e i j → HasStmt room s j k → k ≡ t ∷ m → IsKeyword ELSE t → Fails (AStmt x) m r → Fails (IfTail x) i r
 if_no x c s q w f = after_condition x c (fails_later (stmt_fixes any x) (a_stmt s) (fails_at q (else_fails w f)))
-
-pub while_head : (x : Bound) {i r : List Token} → Fails (ACondition x) i r → Fails (WhileTail x) i r
-while_head x f = in_condition x f
-
-pub while_body : (x : Bound) {room : Room} {e : Expr} {i j r : List Token} → HasCondition room e i j → Fails (AStmt x) j r → Fails (WhileTail x) i r
-while_body x c f = after_condition x c f
-
-pub do_body : (x : Bound) {i r : List Token} → Fails (AStmt x) i r → Fails (DoTail x) i r
-do_body x f = fails_first f
 
 pub do_word : (x : Bound) {room : Room} {s : Stmt} {i j : List Token} → HasStmt room s i j → (IsAtKeyword WHILE j → ⊥) → Fails (DoTail x) i j
 do_word x s f = fails_later (stmt_fixes any x) (a_stmt s) (fails_missing _ (not_at_word f))
@@ -233,9 +216,6 @@ for_body x h v f =
     (fails_after
     (fails_later (first_fixes any x) (a_first v.first)
     (fails_later (maybe_fixes any x) (maybe_semicolon v.test.reads v.test.closes) (fails_after (fails_later (maybe_fixes any x) (maybe_parenthesis v.step.reads v.step.closes) (fails_after f))))))
-
-pub switch_head : (x : Bound) {i r : List Token} → Fails (ACondition x) i r → Fails (SwitchTail x) i r
-switch_head x f = in_condition x f
 
 pub switch_brace : (x : Bound) {room : Room} {e : Expr} {i j : List Token} → HasCondition room e i j → (IsAt LEFT_BRACE j → ⊥) → Fails (SwitchTail x) i j
 switch_brace x c f = after_condition x c (fails_missing _ (not_at f))

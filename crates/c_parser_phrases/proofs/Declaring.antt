@@ -7,14 +7,12 @@ use Rattle.c_lexer.specs.declared.punctuator.TheConstants.{LEFT_PARENTHESIS, RIG
 use Rattle.c_syntax.specs.declared.tree.Ident.{Ident as IdentTree}
 use Rattle.c_syntax.specs.declared.tree.Param.{Param as ParamTree}
 use Rattle.c_syntax.specs.declared.tree.Declarator.{Declarator as DeclaratorTree}
-use Rattle.c_syntax.specs.declared.tree.DeclaratorKind.{DeclaratorKind, Pointer', Array', Function'}
-use Rattle.c_syntax.specs.declared.tree.DeclaratorKind.{Name as Declared}
 use Rattle.c_syntax.specs.Tree.{Spec, Declarator, nothing, named, pointer, Params, no_params, more_params}
 use Rattle.c_syntax.specs.Tokens.{Is, place}
 use Rattle.c_syntax.specs.Specifiers.{Consts}
 use Rattle.c_syntax.specs.Limits.{height_of_params}
 use Rattle.c_syntax.specs.Grammar.{HasName, IsThere, AreSome, Declares, a_pointer, a_direct, ReadsCore, a_declared, declarator_in_parentheses, no_core, ReadsParams, are_some, ReadsEach}
-use Rattle.c_syntax.specs.View.{ident_of, param_before, declarator_at, declarator_of}
+use Rattle.c_syntax.specs.View.{ident_of, param_before, declarator_of}
 use Rattle.c_syntax.specs.Writes.{params_of, declarator_behind}
 use Rattle.c_syntax_printing.specs.Starts.{start, EndsDeclarator}
 use Rattle.c_syntax_printing.proofs.Ends.{started, started_name}
@@ -34,6 +32,7 @@ use Rattle.c_parser_phrases.proofs.Raising.{no_memory}
 use Rattle.c_parser_phrases.proofs.Exits.{taken_at, suits_pointer, suits_name, suits_nothing, suits_made, pointer_read, named_read, brackets_read}
 use Rattle.c_parser_phrases.proofs.Lists.{each_one, each_more, some_more, some_one, none_read, params_height}
 use Rattle.c_syntax_printing.proofs.Heads.{lengthened_name}
+use Rattle.c_parser_phrases.proofs.Rows.{kind_there}
 
 -- the declarator stands between, has a name or not as it is to, and what follows doesn't go on with it
 abbrev pub IsDeclared : ℕ → Form → Declarator → List Token → List Token → Type 0
@@ -72,12 +71,6 @@ nothing_made {d} {w} {i} form f v =
     let P : Declarator → Type 0 = λ z. ReadsCore d z i i in
     (subst P (sym v) no_core, suits_made form w nothing v (suits_nothing form f))
 
-kind_there : (at : ℕ) (kind : DeclaratorKind) → IsThere (declarator_at at kind)
-kind_there at (Declared x) = tt
-kind_there at (Pointer' held) = tt
-kind_there at (Array' held size) = tt
-kind_there at (Function' held shape row) = tt
-
 -- a declarator that is not None
 pub there_is : (tree : Option (Box DeclaratorTree Global)) → is_some tree ≡ true → IsThere (declarator_behind tree)
 there_is None e = absurd (let q : false ≡ true = e in cc)
@@ -95,7 +88,7 @@ brackets_made {i = i} {j = j} form q l h r s there u =
 pub param_made :
     {d at : ℕ} {s : Spec} {e : Declarator} {i k j : List Token} (p : ParamTree) (v : Bool)
     → at ≡ place i → HasSpec s i k → Declares d e k j × EndsDeclarator j × Suits Either e → ((rest : Params) → param_before p rest ≡ more_params at s e rest) → IsVoidAlone v s e → IsParam d p v i j
-param_made {at = at} {s = s} {e = e} {k = k} p true b r c same alone = record {
+param_made {at = at} {s = s} {e = e} {k = k} p v b r c same alone = record {
   at = at;
   spec = s;
   inner = e;
@@ -106,22 +99,8 @@ param_made {at = at} {s = s} {e = e} {k = k} p true b r c same alone = record {
   spec_ends = r.ends;
   declared = c.0;
   ends = c.1;
-  alone = λ _. alone;
-  other = λ q. absurd (let t : true ≡ false = q in cc);
-}
-param_made {at = at} {s = s} {e = e} {k = k} p false b r c same alone = record {
-  at = at;
-  spec = s;
-  inner = e;
-  between = k;
-  same = same;
-  begins = b;
-  specified = r.reads;
-  spec_ends = r.ends;
-  declared = c.0;
-  ends = c.1;
-  alone = λ q. absurd (let t : false ≡ true = q in cc);
-  other = λ _. alone at;
+  alone = λ q. subst (λ z. IsVoidAlone z s e) q alone;
+  other = λ q. subst (λ z. IsVoidAlone z s e) q alone at;
 }
 
 -- parameters that are not `void` alone

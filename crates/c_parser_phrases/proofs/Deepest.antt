@@ -1,13 +1,14 @@
 -- A deepest node of what is made.
 use Rattle.std.proofs.Common.{◌≡◌, ◌⊎◌, inl, inr, ℕ, suc, List, [], ◌∷◌, ◌++◌, sym, ap, ◌∙◌, subst, arith}
+use Rattle.std.proofs.Math.Logic.{⊎_map}
 use Rattle.c_syntax.specs.declared.tree.Expr.{Expr as ExprTree}
 use Rattle.c_syntax.specs.declared.tree.Param.{Param as ParamTree, Param'}
-use Rattle.c_syntax.specs.Tree.{Spec, Expr, Exprs, Maybe, TypeName, type_name, Declarator, Params, no_params, more_params}
+use Rattle.c_syntax.specs.Tree.{Spec, Expr, TypeName, type_name, Declarator, Params, no_params, more_params}
 use Rattle.c_syntax.specs.Grammar.{IsThere}
 use Rattle.c_syntax.specs.Statements.{place_of}
 use Rattle.c_syntax.specs.View.{expr_of, param_before}
 use Rattle.c_syntax.specs.Writes.{exprs_of, params_of}
-use Rattle.c_syntax_printing.specs.Nodes.{place_of_declarator, InExpr, expr_here, InExprs, in_first_expr, in_later_expr, InMaybe, InType, InDeclarator, declarator_here, InParams, in_first_param, in_later_param, in_type}
+use Rattle.c_syntax_printing.specs.Nodes.{place_of_declarator, InExpr, expr_here, InExprs, in_first_expr, in_later_expr, InType, InDeclarator, declarator_here, InParams, in_first_param, in_later_param, in_type}
 use Rattle.c_parser_phrases.specs.declared.depth.Depth.{Depth}
 use Rattle.c_parser_phrases.specs.Deepest.{IsDeeper, IsAround}
 
@@ -38,28 +39,6 @@ pub beside_declarator : {x : Declarator} {a b d : Depth} → IsDeeper a b d → 
 beside_declarator {x} (inl w) u v = subst (λ z. (z.height ≡ 0) ⊎ InDeclarator z.deepest (suc z.height) x) (sym w.0) u
 beside_declarator {x} (inr w) u v = subst (λ z. (z.height ≡ 0) ⊎ InDeclarator z.deepest (suc z.height) x) (sym w.0) v
 
--- what may have no node
-
-pub part_exprs : {m n : ℕ} {es : Exprs} {x : Expr} → (InExprs m n es → InExpr m (suc n) x) → (n ≡ 0) ⊎ InExprs m n es → (n ≡ 0) ⊎ InExpr m (suc n) x
-part_exprs f (inl z) = inl z
-part_exprs f (inr u) = inr (f u)
-
-pub part_type : {m n : ℕ} {t : TypeName} {x : Expr} → (InType m n t → InExpr m (suc n) x) → (n ≡ 0) ⊎ InType m n t → (n ≡ 0) ⊎ InExpr m (suc n) x
-part_type f (inl z) = inl z
-part_type f (inr u) = inr (f u)
-
-pub part_declarator : {m n : ℕ} {e x : Declarator} → (InDeclarator m n e → InDeclarator m (suc n) x) → (n ≡ 0) ⊎ InDeclarator m n e → (n ≡ 0) ⊎ InDeclarator m (suc n) x
-part_declarator f (inl z) = inl z
-part_declarator f (inr u) = inr (f u)
-
-pub part_size : {m n : ℕ} {e : Maybe} {x : Declarator} → (InMaybe m n e → InDeclarator m (suc n) x) → (n ≡ 0) ⊎ InMaybe m n e → (n ≡ 0) ⊎ InDeclarator m (suc n) x
-part_size f (inl z) = inl z
-part_size f (inr u) = inr (f u)
-
-pub part_params : {m n : ℕ} {ps : Params} {x : Declarator} → (InParams m n ps → InDeclarator m (suc n) x) → (n ≡ 0) ⊎ InParams m n ps → (n ≡ 0) ⊎ InDeclarator m (suc n) x
-part_params f (inl z) = inl z
-part_params f (inr u) = inr (f u)
-
 -- expressions one by one
 
 pushed_later : {m n : ℕ} (es : List ExprTree) (e : ExprTree) → InExprs m n (exprs_of es) → InExprs m n (exprs_of (es ++ e ∷ []))
@@ -83,8 +62,7 @@ pub exprs_grown_deep :
 exprs_grown_deep {a} {b} {d} es v e q r w u y = subst (λ z. (d.height ≡ 0) ⊎ InExprs d.deepest d.height (exprs_of z)) (sym (q ∙ ap (λ z. es ++ z ∷ []) r)) (go w u)
   where
     go : IsDeeper a b d → (a.height ≡ 0) ⊎ InExprs a.deepest a.height (exprs_of es) → (d.height ≡ 0) ⊎ InExprs d.deepest d.height (exprs_of (es ++ e ∷ []))
-    go (inl k) (inl z) = inl (ap (λ y. y.height) k.0 ∙ z)
-    go (inl k) (inr z) = subst (λ y. (y.height ≡ 0) ⊎ InExprs y.deepest y.height (exprs_of (es ++ e ∷ []))) (sym k.0) (inr (pushed_later es e z))
+    go (inl k) z = subst (λ y. (y.height ≡ 0) ⊎ InExprs y.deepest y.height (exprs_of (es ++ e ∷ []))) (sym k.0) (⊎_map (λ x. x) (pushed_later es e) z)
     go (inr k) z = subst (λ y. (y.height ≡ 0) ⊎ InExprs y.deepest y.height (exprs_of (es ++ e ∷ []))) (sym k.0) (inr (pushed_last es e y))
 
 -- parameters one by one
@@ -109,14 +87,6 @@ params_last : {m n : ℕ} (ps : List ParamTree) (p : ParamTree) → InParams m n
 params_last [] p u = u
 params_last (x ∷ ps) p u = param_later x (params_of (ps ++ p ∷ [])) (params_last ps p u)
 
-last_of : {m n : ℕ} (ps : List ParamTree) (p : ParamTree) → (n ≡ 0) ⊎ InParams m n (param_before p no_params) → (n ≡ 0) ⊎ InParams m n (params_of (ps ++ p ∷ []))
-last_of ps p (inl z) = inl z
-last_of ps p (inr u) = inr (params_last ps p u)
-
-later_of : {m n : ℕ} (ps : List ParamTree) (p : ParamTree) → (n ≡ 0) ⊎ InParams m n (params_of ps) → (n ≡ 0) ⊎ InParams m n (params_of (ps ++ p ∷ []))
-later_of ps p (inl z) = inl z
-later_of ps p (inr u) = inr (params_later ps p u)
-
 pub params_grown_deep :
     {a b d : Depth} {qs : List ParamTree} (ps : List ParamTree) (p : ParamTree)
     → qs ≡ ps ++ p ∷ [] → IsDeeper a b d → (a.height ≡ 0) ⊎ InParams a.deepest a.height (params_of ps)
@@ -124,18 +94,16 @@ pub params_grown_deep :
 params_grown_deep {a} {b} {d} ps p q w u f = subst (λ z. (d.height ≡ 0) ⊎ InParams d.deepest d.height (params_of z)) (sym q) (go w)
   where
     go : IsDeeper a b d → (d.height ≡ 0) ⊎ InParams d.deepest d.height (params_of (ps ++ p ∷ []))
-    go (inl k) = subst (λ y. (y.height ≡ 0) ⊎ InParams y.deepest y.height (params_of (ps ++ p ∷ []))) (sym k.0) (later_of ps p u)
-    go (inr k) = subst (λ y. (y.height ≡ 0) ⊎ InParams y.deepest y.height (params_of (ps ++ p ∷ []))) (sym k.0) (last_of ps p (f no_params))
+    go (inl k) = subst (λ y. (y.height ≡ 0) ⊎ InParams y.deepest y.height (params_of (ps ++ p ∷ []))) (sym k.0) (⊎_map (λ x. x) (params_later ps p) u)
+    go (inr k) = subst (λ y. (y.height ≡ 0) ⊎ InParams y.deepest y.height (params_of (ps ++ p ∷ []))) (sym k.0) (⊎_map (λ x. x) (params_last ps p) (f no_params))
 
 -- the name of a type, and a parameter
 
 pub type_deep : {m n at : ℕ} {s : Spec} {e : Declarator} {t : TypeName} → t ≡ type_name at s e → (n ≡ 0) ⊎ InDeclarator m n e → (n ≡ 0) ⊎ InType m n t
-type_deep q (inl z) = inl z
-type_deep {m} {n} q (inr u) = inr (subst (λ z. InType m n z) (sym q) (in_type u))
+type_deep {m} {n} q = ⊎_map (λ x. x) (λ u. subst (λ z. InType m n z) (sym q) (in_type u))
 
 pub param_deep : {m n at : ℕ} {s : Spec} {e : Declarator} {ps rest : Params} → ps ≡ more_params at s e rest → (n ≡ 0) ⊎ InDeclarator m n e → (n ≡ 0) ⊎ InParams m n ps
-param_deep q (inl z) = inl z
-param_deep {m} {n} q (inr u) = inr (subst (λ z. InParams m n z) (sym q) (in_first_param u))
+param_deep {m} {n} q = ⊎_map (λ x. x) (λ u. subst (λ z. InParams m n z) (sym q) (in_first_param u))
 
 pub type_deep_at : {a d : Depth} {at : ℕ} {s : Spec} {e : Declarator} {t : TypeName} → d ≡ a → t ≡ type_name at s e → (a.height ≡ 0) ⊎ InDeclarator a.deepest a.height e → (d.height ≡ 0) ⊎ InType d.deepest d.height t
 type_deep_at {t = t} w q u = subst (λ z. (z.height ≡ 0) ⊎ InType z.deepest z.height t) (sym w) (type_deep q u)

@@ -8,7 +8,9 @@ use Rattle.c_syntax.specs.Tokens.{Is, IsKeyword, IsUnary, IsAssignment, IsPrefix
 use Rattle.c_syntax.specs.Specifiers.{Names, Consts}
 use Rattle.c_syntax.specs.Grammar.{Level, primary_level, unary_level, cast_level, binary_level, conditional_level, assignment_level, expression_level, IsThere}
 use Rattle.c_syntax.specs.Grammar.{Reads, in_parentheses, a_prefix, a_unary, a_sizeof_type, no_cast, a_cast, a_choice, an_assignment, a_comma, ReadsList, last_expr, next_expr, ReadsType, Declares, a_pointer, ReadsCore, a_declared, declarator_in_parentheses}
+use Rattle.c_syntax.proofs.BackTokens.{ends}
 use Rattle.c_syntax_printing.specs.Ranks.{rank, rank_of_kind, Stops}
+use Rattle.c_syntax_printing.specs.Starts.{start}
 use Rattle.c_syntax_printing.proofs.Ranks.{ranked, ranked_infix}
 use Rattle.c_syntax_printing.proofs.Begins.{type_begins}
 use Rattle.c_syntax_printing.proofs.One.{same}
@@ -31,9 +33,9 @@ pub taken_word : (code : ℕ) (i k : List Token) → IsAtKeyword code i → k �
 taken_word code [] k h r = absurd h
 taken_word code (t ∷ j) k h r = (t, h, ap (λ x. t ∷ x) (sym r))
 
-pub taken_cast : (i k : List Token) → IsAtCast i → k ≡ drop 1 i → (t : Token) × Is LEFT_PARENTHESIS t × (i ≡ t ∷ k)
-taken_cast [] k h r = absurd h
-taken_cast (t ∷ j) k h r = (t, h.0, ap (λ x. t ∷ x) (sym r))
+pub cast_taken : (i k : List Token) → IsAtCast i → k ≡ drop 1 i → (t : Token) × Is LEFT_PARENTHESIS t × (i ≡ t ∷ k) × (7 ≤ start k)
+cast_taken [] k h e = absurd h
+cast_taken (t ∷ j) k h e = (t, h.0, ap (λ z. t ∷ z) (sym e), omega (arith, h.1, ap start e))
 
 pub over : (n m : ℕ) → m ≤ n → (n ≡ m → ⊥) → m + 1 ≤ n
 over n m l f = omega (arith, l, f)
@@ -50,9 +52,6 @@ paired_type q r = rw (sym q) r
 
 pub paired_declarator : {x d : ℕ} {e : Declarator} {i j : List Token} → x ≡ d → Declares x e i j → Declares d e i j
 paired_declarator q r = rw (sym q) r
-
-pub ended : {d : ℕ} {l : Level} {e : Expr} {i j k : List Token} → j ≡ k → Reads d l e i j → Reads d l e i k
-ended q r = rw (sym q) r
 
 pub ended_type : {d : ℕ} {e : TypeName} {i j k : List Token} → j ≡ k → ReadsType d e i j → ReadsType d e i k
 ended_type q r = rw (sym q) r
@@ -72,10 +71,10 @@ uncast (no_cast r) f = r
 uncast (a_cast o n c r) f = absurd (f (o, (type_begins n).0))
 
 pub assign_read : {d x at op : ℕ} {a b : Expr} {t : Token} {i j k m : List Token} → x ≡ d → at ≡ place i → Reads d cast_level a i j → (IsAtCast i → ⊥) → j ≡ t ∷ k → Is op t → IsAssignment op → Reads x assignment_level b k m → Reads d assignment_level (assign at op a b) i m
-assign_read x p r f q o h v = an_assignment p (uncast (ended q r) f) o h (paired x v)
+assign_read x p r f q o h v = an_assignment p (uncast (ends q r) f) o h (paired x v)
 
 pub choice_read : {d x y at : ℕ} {a b c : Expr} {t u : Token} {i j k m n z : List Token} → x ≡ d → y ≡ d → at ≡ place i → Reads d (binary_level 10) a i j → Is QUESTION t → j ≡ t ∷ k → Reads x expression_level b k m → Is COLON u → m ≡ u ∷ n → Reads y conditional_level c n z → Reads d conditional_level (conditional at a b c) i z
-choice_read x y p a o q b c w e = a_choice p (ended q a) o (ended w (paired x b)) c (paired y e)
+choice_read x y p a o q b c w e = a_choice p (ends q a) o (ends w (paired x b)) c (paired y e)
 
 binary_grown : {d x n at : ℕ} {o : Infix} {a b : Expr} {t : Token} {i k m : List Token} → at ≡ place i → Reads d (binary_level n) a i (t ∷ k) → n + 1 ≤ rank_of_kind t.kind → IsInfix o (suc x) → Is (code_of_infix o) t → Reads d (binary_level x) b k m → Reads d (binary_level (suc x)) (binary at o a b) i m
 binary_grown {x = x} {o = o} p r l h c s = chained_more p (lifted (suc x) p (omega (arith, l, ranked_infix x o h c)) r) h c s
@@ -85,7 +84,7 @@ pub binary_read : {d y x n at level : ℕ} {o : Infix} {a b : Expr} {t : Token} 
 binary_read {d} {y} {x} {n} {at} {level} {o} {a} {b} {t} {i} {j} {k} {m} v p r l q h c e s =
     let P : ℕ → Type 0 = λ z. Reads d (binary_level z) (binary at o a b) i m in
     let Q : ℕ → Type 0 = λ z. IsInfix o z in
-    subst P e (binary_grown p (ended q r) (omega (arith, l, ap rank q)) (subst Q (sym e) h) c (paired v s))
+    subst P e (binary_grown p (ends q r) (omega (arith, l, ap rank q)) (subst Q (sym e) h) c (paired v s))
 
 pub cast_read : {d x y at : ℕ} {n : TypeName} {e : Expr} {t u : Token} {i j k m z : List Token} → x ≡ d → y ≡ d → at ≡ place i → Is LEFT_PARENTHESIS t → i ≡ t ∷ j → ReadsType x n j k → Is RIGHT_PARENTHESIS u → k ≡ u ∷ m → Reads y cast_level e m z → Reads d cast_level (cast at n e) i z
 cast_read x y p o q n c w r = rw (p ∙ ap place q, q) (a_cast o (ended_type w (paired_type x n)) c (paired y r))
@@ -106,7 +105,7 @@ pub parentheses_read : {d x : ℕ} {e : Expr} {t u : Token} {i j k m : List Toke
 parentheses_read {d} {x} {e} {i = i} {m = m} y l o q r c w =
     let one : suc x ≡ d = omega (arith, y, l) in
     let P : ℕ → Type 0 = λ n. Reads n primary_level e i m in
-    subst P one (rw q (in_parentheses o (ended w r) c))
+    subst P one (rw q (in_parentheses o (ends w r) c))
 
 -- whether a declarator has a name
 pub suits_pointer : (form : Form) (at : ℕ) (e : Declarator) → Suits form e → Suits form (pointer at e)

@@ -1,20 +1,17 @@
 -- Initialisers: as the terms that they are seen as, and what is read of a list of them.
-use Rattle.std.proofs.Common.{◌⊎◌, inl, inr, ◌≡◌, ◌<◌, ◌≤◌, ◌-◌, ℕ, max, Bool, true, false, List, [], ◌∷◌, ◌++◌, Vec, Global, drop, length, refl, sym, ap, ◌∙◌, subst, arith}
+use Rattle.std.proofs.Common.{◌⊎◌, inl, inr, ◌≡◌, ◌<◌, ◌≤◌, ◌-◌, ℕ, max, Bool, true, false, List, [], ◌∷◌, ◌++◌, drop, length, refl, sym, ap, ◌∙◌, subst, arith}
 use Rattle.std.specs.Prelude.{Ok}
-use mathlib.Core.Former.{Count}
 use Rattle.c_lexer.specs.declared.token.Token.{Token}
 use Rattle.c_lexer.specs.declared.punctuator.TheConstants.{COMMA, LEFT_BRACE, RIGHT_BRACE}
-use Rattle.c_syntax.specs.declared.tree.ExprKind.{ExprKind, Name, Int, Char, Str, Comma', SizeofType, Cast', Call', Member', Arrow', PostInc', PostDec', PreInc', PreDec', SizeofExpr', Unary', Index', And', Or', Binary', Assign', Cond'}
+use Rattle.c_syntax.specs.declared.tree.ExprKind.{ExprKind, Name}
 use Rattle.c_syntax.specs.declared.tree.Init.{Init as InitTree}
-use Rattle.c_syntax.specs.declared.tree.InitKind.{InitKind, List', Row_of-Init, end_of-Init, items_hidden-the_row-Init-0}
-use Rattle.c_syntax.specs.declared.tree.InitKind.TheVariants.{List as listed}
 use Rattle.c_syntax.specs.Tree.{Expr, Init, one, list, Inits, no_inits, more_inits}
 use Rattle.c_syntax.specs.Tokens.{Is, place}
 use Rattle.c_syntax.specs.Grammar.{assignment_level}
 use Rattle.c_syntax.specs.Limits.{height_of_init, height_of_inits}
 use Rattle.c_syntax.specs.Statements.{place_of, ReadsInit, an_expression, a_list, a_list_with_comma, ReadsInits, last_init, next_init}
 use Rattle.c_syntax.specs.View.{expr_at}
-use Rattle.c_syntax.specs.UnitView.{init_at, init_of}
+use Rattle.c_syntax.specs.UnitView.{init_of}
 use Rattle.c_syntax.specs.WritesUnit.{inits_of}
 use Rattle.c_syntax_printing.specs.Ranks.{rank}
 use Rattle.c_parser_phrases.specs.declared.room.Room.{Room}
@@ -22,40 +19,11 @@ use Rattle.c_parser_phrases.specs.Standing.{IsAt, Took}
 use Rattle.c_parser_phrases.specs.Phrases.{HasRead, HasInit}
 use Rattle.c_parser_phrases.specs.Lists.{HasList, GoesOn}
 use Rattle.c_parser_phrases.proofs.Exits.{taken_at}
-use Rattle.c_syntax.proofs.UnitRows.{inits_row}
 
 -- the place of an expression
 pub place_is : (at : ℕ) (kind : ExprKind) → place_of (expr_at at kind) ≡ at
 place_is at (Name n) = refl
-place_is at (Int v u) = refl
-place_is at (Char c) = refl
-place_is at (Str bytes) = refl
-place_is at (Comma' shape row) = refl
-place_is at (SizeofType n) = refl
-place_is at (Cast' n p a1 k1) = refl
-place_is at (Call' p a1 k1 shape row) = refl
-place_is at (Member' p a1 k1 x) = refl
-place_is at (Arrow' p a1 k1 x) = refl
-place_is at (PostInc' p a1 k1) = refl
-place_is at (PostDec' p a1 k1) = refl
-place_is at (PreInc' p a1 k1) = refl
-place_is at (PreDec' p a1 k1) = refl
-place_is at (SizeofExpr' p a1 k1) = refl
-place_is at (Unary' op p a1 k1) = refl
-place_is at (Index' p a1 k1 q a2 k2) = refl
-place_is at (And' p a1 k1 q a2 k2) = refl
-place_is at (Or' p a1 k1 q a2 k2) = refl
-place_is at (Binary' op p a1 k1 q a2 k2) = refl
-place_is at (Assign' op p a1 k1 q a2 k2) = refl
-place_is at (Cond' p a1 k1 q a2 k2 r a3 k3) = refl
-
-abbrev row_in : InitKind → (n : Count) × Row_of-Init n
-row_in (List' shape row) = (_, row)
-row_in _ = (_, end_of-Init)
-
--- a list as the term that it is seen as
-pub list_is : (at : ℕ) (v : Vec InitTree Global) → init_at at (listed v) ≡ list at (inits_of v.items)
-list_is at v = ap (list at) (inits_row (row_in (listed v)).0 (row_in (listed v)).1 ∙ ap inits_of (items_hidden-the_row-Init-0 v))
+place_is at kind = refl
 
 inits_on : Inits → Init → Inits
 inits_on no_inits a = more_inits a no_inits

@@ -4,7 +4,7 @@ use Rattle.c_lexer.specs.declared.token.Token.{Token}
 use Rattle.c_lexer.specs.declared.punctuator.TheConstants.{COMMA}
 use Rattle.c_syntax.specs.declared.tree.Expr.{Expr as ExprTree}
 use Rattle.c_syntax.specs.declared.tree.Param.{Param as ParamTree, Param'}
-use Rattle.c_syntax.specs.Tree.{Ident, Maybe, Spec, void, char, unsigned_char, int, unsigned_int, struct, enum, Declarator, nothing, named, pointer, array, function, Params, no_params, more_params}
+use Rattle.c_syntax.specs.Tree.{Ident, Maybe, Spec, void, Declarator, nothing, named, array, function, Params, no_params, more_params}
 use Rattle.c_syntax.specs.Tokens.{Is}
 use Rattle.c_syntax.specs.Limits.{height, height_of_exprs, height_of_params}
 use Rattle.c_syntax.specs.Specifiers.{ReadsSpec}
@@ -12,6 +12,7 @@ use Rattle.c_syntax.specs.Grammar.{Declares, a_direct, ReadsCore, no_core, a_dec
 use Rattle.c_syntax.specs.View.{expr_of, param_before, spec_of, held_declarator}
 use Rattle.c_syntax.specs.Writes.{exprs_of, params_of}
 use Rattle.c_parser_phrases.specs.Reading.{IsParam}
+use Rattle.c_syntax_printing.proofs.PartOpens.{some_more as some_after}
 
 pub exprs_height : (es : List ExprTree) (e : ExprTree) → height_of_exprs (exprs_of (es ++ e ∷ [])) ≡ max (height_of_exprs (exprs_of es)) (height (expr_of e))
 exprs_height [] e = omega arith
@@ -39,24 +40,11 @@ each_one p h = rw (h.same no_params) (last_param h.begins h.specified h.declared
 pub each_more : {d : ℕ} {v : Bool} {t : Token} {i j k : List Token} (ps : List ParamTree) (p : ParamTree) → ReadsEach d (params_of ps) i (t ∷ j) → Is COMMA t → IsParam d p v j k → ReadsEach d (params_of (ps ++ p ∷ [])) i k
 each_more ps p r h w = rw (params_joined ps p) (each_on r h (each_one p w))
 
-some_two : (at : ℕ) (s : Spec) (e : Declarator) (b : ℕ) (z : Spec) (f : Declarator) (rest : Params) → AreSome (more_params at s e (more_params b z f rest))
-some_two at void nothing b z f rest = tt
-some_two at void (named x y) b z f rest = tt
-some_two at void (pointer x y) b z f rest = tt
-some_two at void (array x y w) b z f rest = tt
-some_two at void (function x y w) b z f rest = tt
-some_two at char e b z f rest = tt
-some_two at unsigned_char e b z f rest = tt
-some_two at int e b z f rest = tt
-some_two at unsigned_int e b z f rest = tt
-some_two at (struct x) e b z f rest = tt
-some_two at (enum x) e b z f rest = tt
-
 -- two parameters or more are not `void` alone
 pub some_more : {d : ℕ} {i j : List Token} (ps : List ParamTree) (p : ParamTree) → ReadsEach d (params_of ps) i j → AreSome (params_of (ps ++ p ∷ []))
 some_more [] p r = absurd (elim r [ ])
-some_more (Param' s held at ∷ []) (Param' z kept b) r = some_two at (spec_of s) (held_declarator held) b (spec_of z) (held_declarator kept) no_params
-some_more (Param' s held at ∷ Param' z kept b ∷ ps) p r = some_two at (spec_of s) (held_declarator held) b (spec_of z) (held_declarator kept) (params_of (ps ++ p ∷ []))
+some_more (Param' s held at ∷ []) (Param' z kept b) r = some_after at (spec_of s) (held_declarator held) b (spec_of z) (held_declarator kept) no_params
+some_more (Param' s held at ∷ Param' z kept b ∷ ps) p r = some_after at (spec_of s) (held_declarator held) b (spec_of z) (held_declarator kept) (params_of (ps ++ p ∷ []))
 
 -- one that is not `void` alone
 pub some_one : {d : ℕ} {v : Bool} {i j : List Token} (p : ParamTree) → IsParam d p v i j → v ≡ false → AreSome (param_before p no_params)

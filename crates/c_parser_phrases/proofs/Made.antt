@@ -28,7 +28,7 @@ use Rattle.c_parser_phrases.specs.Looking.{infix_of, step_of, IsAtCast, StandsOp
 use Rattle.c_parser_phrases.specs.Standing.{IsAt, IsAtKeyword}
 use Rattle.c_parser_phrases.proofs.Growing.{lifted, list_more}
 use Rattle.c_parser_phrases.proofs.Known.{question_left, comma_left}
-use Rattle.c_parser_phrases.proofs.Exits.{taken, taken_at, taken_word, taken_cast, paired_list, comma_read, assign_read, choice_read, binary_read, cast_read, sizeof_type_read, sizeof_read, prefix_read, unary_read, parentheses_read}
+use Rattle.c_parser_phrases.proofs.Exits.{taken, taken_at, taken_word, cast_taken, paired_list, comma_read, assign_read, choice_read, binary_read, cast_read, sizeof_type_read, sizeof_read, prefix_read, unary_read, parentheses_read}
 
 -- an expression of the level stands between, and what follows doesn't go on with it
 abbrev pub Stands : ℕ → Level → Expr → List Token → List Token → Type 0
@@ -99,7 +99,7 @@ pub cast_made :
     → Stands y cast_level e m z → w ≡ cast at n e → Stands d cast_level w i z
 cast_made {d} {i = i} {j = j} {z = z} q o p h r n u s v =
     let P : Expr → Type 0 = λ y. Reads d cast_level y i z in
-    let t = taken_cast i j h r in
+    let t = cast_taken i j h r in
     (subst P (sym v) (cast_read q o p t.1 t.2 n u.1 u.2 s.0), s.1)
 
 pub no_prefixed : {d : ℕ} {e : Expr} {i j : List Token} → Stands d postfix_level e i j → Stands d unary_level e i j
@@ -143,7 +143,7 @@ pub sizeof_type_made :
     → (rank m ≤ 1 → ⊥) → w ≡ sizeof_type at n → Stands d unary_level w (t ∷ i) m
 sizeof_type_made {d} {t = t} {i = i} {j = j} {m = m} q h p f r n u z v =
     let P : Expr → Type 0 = λ y. Reads d unary_level y (t ∷ i) m in
-    let o = taken_cast i j f r in
+    let o = cast_taken i j f r in
     (subst P (sym v) (sizeof_type_read q h p o.1 o.2 n u.1 u.2), omega (arith, z))
 
 pub parentheses_made :

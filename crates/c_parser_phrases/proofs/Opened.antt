@@ -1,24 +1,19 @@
 -- Where expressions go on past the limits: what opens at a part opens at the whole.
-use Rattle.std.proofs.Common.{◌≡◌, ◌≤◌, ◌<◌, ◌-◌, ◌⊎◌, inl, inr, ℕ, suc, ℤ, List, [], ◌∷◌, drop, length, refl, sym, ap, ◌∙◌, subst, arith}
+use Rattle.std.proofs.Common.{◌≡◌, ◌≤◌, ◌<◌, ◌-◌, ◌⊎◌, inl, inr, ℕ, suc, List, [], ◌∷◌, drop, length, refl, sym, ap, ◌∙◌, subst, arith}
 use Rattle.std.specs.Prelude.{Some}
 use Rattle.c_lexer.specs.declared.token.Token.{Token}
 use Rattle.c_lexer.specs.declared.token.TokenKind.{TokenKind}
 use Rattle.c_lexer.specs.declared.token.TokenKind.TheVariants.{Name, Keyword, Int, Char, Str, Punct}
 use Rattle.c_lexer.specs.declared.keyword.TheConstants.{SIZEOF}
 use Rattle.c_lexer.specs.declared.punctuator.TheConstants.{LEFT_PARENTHESIS, RIGHT_PARENTHESIS, QUESTION, COLON, COMMA}
-use Rattle.c_syntax.specs.Tree.{Expr, TypeName, conditional, dot, arrow, post_increment, post_decrement}
-use Rattle.c_syntax.specs.Tokens.{Is, IsKeyword, IsChar, place}
-use Rattle.c_syntax.specs.Grammar.{primary_level, postfix_level, unary_level, cast_level, binary_level, conditional_level, assignment_level, expression_level, Reads, with_suffixes, a_choice, ReadsType, no_suffix}
-use Rattle.c_syntax.specs.Grammar.Reads.{is_char as char_stands}
+use Rattle.c_syntax.specs.Tree.{Expr, TypeName, dot, arrow, post_increment, post_decrement}
+use Rattle.c_syntax.specs.Tokens.{Is, IsKeyword, place}
+use Rattle.c_syntax.specs.Grammar.{primary_level, postfix_level, unary_level, cast_level, binary_level, conditional_level, assignment_level, expression_level, Reads, with_suffixes, ReadsType, no_suffix}
 use Rattle.c_syntax_printing.specs.Starts.{start, start_of_kind, EndsDeclarator}
-use Rattle.c_syntax_printing.proofs.MorePairs.{wide}
-use Rattle.c_syntax_printing.specs.Fails.{Then, then, One, one}
-use Rattle.c_syntax_printing.specs.Nodes.{InExpr, expr_here, in_no}
+use Rattle.c_syntax_printing.specs.Nodes.{InExpr}
 use Rattle.c_syntax_printing.specs.Opens.{Opens, DeepExpr, DeepExprs, DeepType, DeepSuffixes}
-use Rattle.c_syntax_printing.proofs.Fixed.{expr_on}
-use Rattle.c_syntax_printing.proofs.Opening.{opens_as, opens_under, opens_later, opens_here}
 use Rattle.c_syntax_printing.proofs.Begun.{expression_begins}
-use Rattle.c_syntax_printing.proofs.ExprOpens.{either, name_too_deep, int_too_deep, string_too_deep, parentheses_open, pair_too_deep, step_opens, operator_opens, step_too_deep, operator_too_deep, cast_too_deep, sizeof_too_deep, cast_type_opens, sizeof_type_opens, cast_operand_opens, suffixes_open, index_too_high, call_too_high, member_too_high, postfix_too_high, operator_opens_right, operator_opens_left, yes_opens, test_too_high, assigned_value_opens, assigned_too_deep, first_of_list_opens, later_of_list_opens, comma_opens, comma_too_deep}
+use Rattle.c_syntax_printing.proofs.ExprOpens.{name_too_deep, int_too_deep, string_too_deep, parentheses_open, pair_too_deep, step_opens, operator_opens, step_too_deep, operator_too_deep, cast_too_deep, sizeof_too_deep, cast_type_opens, sizeof_type_opens, cast_operand_opens, suffixes_open, index_too_high, call_too_high, member_too_high, postfix_too_high, operator_opens_right, operator_opens_left, yes_opens, test_too_high, assigned_value_opens, assigned_too_deep, first_of_list_opens, later_of_list_opens, comma_opens, comma_too_deep}
 use Rattle.c_parser_phrases.specs.declared.looking.Operator.{Operator}
 use Rattle.c_parser_phrases.specs.declared.looking.Suffix.{Suffix}
 use Rattle.c_parser_phrases.specs.declared.looking.Suffix.TheVariants as sv
@@ -29,10 +24,10 @@ use Rattle.c_parser_phrases.specs.Looking.{infix_of, step_of, IsAtCast, IsSuffix
 use Rattle.c_parser_phrases.specs.Standing.{IsAt, IsAtKeyword}
 use Rattle.c_parser_phrases.specs.Reading.{OpensMore}
 use Rattle.c_parser_phrases.proofs.Made.{Stands, Chained}
-use Rattle.c_parser_phrases.proofs.Exits.{taken, taken_at}
-use Rattle.c_parser_phrases.proofs.Refusals.{cast_taken, left_of, Suffixed}
+use Rattle.c_parser_phrases.proofs.Exits.{taken, taken_at, cast_taken}
+use Rattle.c_parser_phrases.proofs.Refusals.{left_of, Suffixed}
 use Rattle.c_parser_phrases.proofs.Starts.{leaf_code, leaf_word}
-use Rattle.c_syntax_printing.proofs.ExprOpens.{Placed, placed_on}
+use Rattle.c_syntax_printing.proofs.ThirdPartOpens.{char_too_deep, no_opens}
 
 -- the height is the limit
 pub at_limit : {at n h : ℕ} {e : Expr} → n ≤ h → h ≤ n → InExpr at h e → InExpr at n e
@@ -93,16 +88,6 @@ pub yes_part_opens : {at p n : ℕ} {a : Expr} {i k r : List Token} (j : List To
 yes_part_opens {p = p} {a = a} {i = i} {k = k} j c e s o =
     let t = taken_at QUESTION j k c e in
     let P : List Token → Type 0 = λ z. Reads p (binary_level 10) a i z in yes_opens (omega arith) t.1 (subst P t.2 s.0) o
-
--- the third part of a conditional expression
-no_opens : {at p n d : ℕ} {a b : Expr} {t u : Token} {i j k r : List Token} → d ≤ suc p → Is QUESTION t → Reads d (binary_level 10) a i (t ∷ j) → Reads d expression_level b j (u ∷ k) → Is COLON u → Opens (DeepExpr at p n conditional_level) k r → Opens (DeepExpr at p (suc n) conditional_level) i r
-no_opens {at} {p} {n} {a = a} {b = b} {i = i} g h w x c o =
-    opens_as (λ k m v. whole v)
-    (opens_later (placed_on w g) (opens_under {B = Then (One (Is QUESTION)) (Then (Reads (suc p) expression_level b) (Then (One (Is COLON)) (DeepExpr at p n conditional_level)))} (λ k m v. then (one h) v)
-    (opens_later (expr_on (wide x g)) (opens_under {B = Then (One (Is COLON)) (DeepExpr at p n conditional_level)} (λ k m v. then (one c) v) o))))
-  where
-    whole : {k m : List Token} → Then (Placed (place i) (suc p) (binary_level 10) a) (Then (One (Is QUESTION)) (Then (Reads (suc p) expression_level b) (Then (One (Is COLON)) (DeepExpr at p n conditional_level)))) k m → DeepExpr at p (suc n) conditional_level k m
-    whole (then f (then (one q) (then y (then (one u) z)))) = record { tree = conditional (place i) a b z.tree; reads = a_choice f.begins f.reads q y u z.reads; deep = either in_no (λ v. inr (inr v)) z.deep }
 
 pub no_part_opens : {at p n : ℕ} {a y : Expr} {u : Token} {i k m z r : List Token} (j : List Token) → IsAt QUESTION j → k ≡ drop 1 j → Stands p (binary_level 10) a i j → Stands p expression_level y k m → Is COLON u → m ≡ u ∷ z → Opens (DeepExpr at p n conditional_level) z r → Opens (DeepExpr at p (suc n) conditional_level) i r
 no_part_opens {p = p} {a = a} {y = y} {i = i} {k = k} j c e s v h q o =
@@ -200,9 +185,6 @@ pub first_argument_opens : {at p n : ℕ} {i j r : List Token} → j ≡ i → O
 first_argument_opens q o = moved_open (sym q) (first_of_list_opens o)
 
 -- primary expressions
-
-char_too_deep : {p : ℕ} {c : ℤ} {t : Token} {i : List Token} → IsChar c t → Opens (DeepExpr t.from p 0 primary_level) (t ∷ i) (t ∷ i)
-char_too_deep h = opens_here (λ m. record { tokens = m; reads = record { tree = _; reads = char_stands h; deep = inl (expr_here refl) } })
 
 kind_deep : {p : ℕ} {t : Token} {i : List Token} (k : TokenKind) → t.kind ≡ k → (start_of_kind k ≡ 3) ⊎ (start_of_kind k ≡ 5) → ((code : ℕ) → (start_of_kind (Punct code) ≡ 3 → ⊥) × (start_of_kind (Punct code) ≡ 5 → ⊥)) → ((word : ℕ) → (start_of_kind (Keyword word) ≡ 3 → ⊥) × (start_of_kind (Keyword word) ≡ 5 → ⊥)) → Opens (DeepExpr t.from p 0 primary_level) (t ∷ i) (t ∷ i)
 kind_deep (Name name) q s f g = name_too_deep {name = name} (record { kind = q })

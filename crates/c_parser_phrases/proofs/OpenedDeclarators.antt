@@ -1,5 +1,6 @@
 -- Where type names, declarators and initialisers go on past the limits.
 use Rattle.std.proofs.Common.{◌≡◌, ◌≤◌, ◌<◌, ◌⊎◌, inl, inr, ℕ, zero, suc, Bool, true, List, [], ◌∷◌, ◌++◌, drop, length, length-append, refl, sym, ap, ◌∙◌, subst, arith}
+use Rattle.std.proofs.Math.Logic.{⊎_map}
 use Rattle.c_lexer.specs.declared.token.Token.{Token}
 use Rattle.c_lexer.specs.declared.keyword.TheConstants.{VOID}
 use Rattle.c_lexer.specs.declared.punctuator.TheConstants.{LEFT_BRACKET, LEFT_PARENTHESIS, RIGHT_PARENTHESIS, LEFT_BRACE, ASTERISK, COMMA}
@@ -203,12 +204,8 @@ bare_open {N} {at} {p} {n} {q} b s o = record {
   before = λ m.
       let x = o.before m in
       let y = x.reads in
-      record { other = x.other; meets = x.meets; tokens = x.tokens; twin = x.twin; reads = record { tree = y.tree; reads = a_direct (b ∙ place_alike (twin_alike x.twin x.meets)) no_core y.reads; suits = y.suits s; deep = lifted y.deep } };
+      record { other = x.other; meets = x.meets; tokens = x.tokens; twin = x.twin; reads = record { tree = y.tree; reads = a_direct (b ∙ place_alike (twin_alike x.twin x.meets)) no_core y.reads; suits = y.suits s; deep = ⊎_map (λ a. a) (λ b. inr b) y.deep } };
 }
-  where
-    lifted : {A B C : Type 0} → A ⊎ B → A ⊎ (C ⊎ B)
-    lifted (inl a) = inl a
-    lifted (inr c) = inr (inr c)
 
 pub parts_open : {at p n begins : ℕ} (form : Form) {core left : Declarator} {i h j r : List Token} → Read p begins core left i h j → Suits form left → OpensPart begins left at p n j r → Opens (DeepDeclarator (Suits form) at p n) i r
 parts_open {at} {p} {n} {begins} form {core} {left} {i} {h} {j} {r} x s o = go x.cored

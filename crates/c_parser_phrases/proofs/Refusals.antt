@@ -25,7 +25,7 @@ use Rattle.c_syntax_printing.proofs.Fixed.{start_alike, stops_alike, expr_fixes}
 use Rattle.c_syntax_printing.proofs.OperandFails.{postfix_fails, cast_fails}
 use Rattle.c_syntax_printing.proofs.PrefixFails.{no_node_left, no_operand, string_follows, no_pair_left, unary_bare, step_fails, unary_fails, sizeof_fails, type_fixes, sizeof_operand, sizeof_type_fails, suffix_after_type, cast_bare}
 use Rattle.c_syntax_printing.proofs.LevelFails.{first_operand, operator_fails, operator_too_high, choice_fails, choice_too_high, assigned_value_fails, assigned_too_high, assigned_after_operators, assigned_cast, comma_fails, comma_too_high, exprs_first, exprs_fail, next_fails, next_leads}
-use Rattle.c_syntax_printing.proofs.SuffixFails.{postfixed_fails, postfixed_too_high, string_after_suffixes, arguments_fail, call_fails}
+use Rattle.c_syntax_printing.proofs.SuffixFails.{postfixed_fails, postfixed_too_high, string_after_suffixes, arguments_fail}
 use Rattle.c_syntax_printing.proofs.ExprForms.{paren_form, index_form, member_form}
 use Rattle.c_parser_phrases.specs.declared.room.Room.{Room}
 use Rattle.c_parser_phrases.specs.declared.error.PhraseError.{PhraseError}
@@ -41,7 +41,7 @@ use Rattle.c_parser_phrases.specs.Standing.{IsAt, IsAtKeyword}
 use Rattle.c_parser_phrases.specs.Reading.{Refused, Lacks, LacksExpr, IsNoLeaf}
 use Rattle.c_parser_phrases.proofs.Made.{Stands, Chained}
 use Rattle.c_parser_phrases.proofs.Growing.{lifted}
-use Rattle.c_parser_phrases.proofs.Exits.{taken, taken_at, parentheses_read}
+use Rattle.c_parser_phrases.proofs.Exits.{taken, taken_at, cast_taken, parentheses_read}
 use Rattle.c_parser_phrases.proofs.Raising.{not_at, ends_at}
 use Rattle.c_parser_phrases.proofs.Starts.{opening_there}
 
@@ -173,10 +173,6 @@ not_cast f t j q h l = f (subst IsAtCast (sym q) (h, l))
 pub bare_cast : {i : List Token} → (IsAtCast i → ⊥) → (b : Bound) (r : List Token) → LacksExpr unary_level b i r → Fails (AnExpr b cast_level) i r
 bare_cast n b r f = cast_bare (not_cast n) f.past f.fails
 
-pub cast_taken : (i k : List Token) → IsAtCast i → k ≡ drop 1 i → (t : Token) × Is LEFT_PARENTHESIS t × (i ≡ t ∷ k) × (7 ≤ start k)
-cast_taken [] k h e = absurd h
-cast_taken (t ∷ j) k h e = (t, h.0, ap (λ z. t ∷ z) (sym e), omega (arith, h.1, ap start e))
-
 pub cast_type_fails : {i k : List Token} → IsAtCast i → k ≡ drop 1 i → (b : Bound) (r : List Token) → Fails (AType (inner b)) k r → Fails (AnExpr b cast_level) i r
 cast_type_fails {i} {k} h e b r f = let t = cast_taken i k h e in fails_at t.2 (cast_fails b t.1 t.3 (fails_first f))
 
@@ -287,9 +283,6 @@ index_fails h b r f = fails_under (λ k j a. index_form b h a) (fails_first f)
 
 pub index_unclosed : {d : ℕ} {e : Expr} {t : Token} {i j : List Token} → Is LEFT_BRACKET t → Stands d expression_level e i j → (IsAt RIGHT_BRACKET j → ⊥) → (b : Bound) → Fails (SomeSuffixes b) (t ∷ i) j
 index_unclosed {j = j} h s n b = fails_under (λ k j a. index_form b h a) (fails_later (expr_fixes any (inner b) expression_level) (an_expr s) (fails_missing j (not_at n)))
-
-pub arguments_lead : {t : Token} {i : List Token} → Is LEFT_PARENTHESIS t → (b : Bound) (r : List Token) → Fails (SomeArguments (inner b)) i r → Fails (SomeSuffixes b) (t ∷ i) r
-arguments_lead h b r f = call_fails h f
 
 pub member_fails : {t : Token} {i : List Token} (x : Access) → IsAccess x t → (b : Bound) (r : List Token) → Fails (One IsSomeName) i r → Fails (SomeSuffixes b) (t ∷ i) r
 member_fails x h b r f = fails_under (λ k j a. member_form b x h a) (fails_first f)

@@ -29,7 +29,7 @@ use Rattle.c_syntax_printing.specs.Initialisers.{InList, ListEnd}
 use Rattle.c_syntax_printing.proofs.Fixed.{expr_fixes, spec_fixes}
 use Rattle.c_syntax_printing.proofs.InitFails.{init_value_fails, no_init_left, init_list_fails, first_init_fails, first_init_leads, list_unclosed, list_goes_on}
 use Rattle.c_syntax_printing.proofs.SpecFails.{consts_fixes}
-use Rattle.c_syntax_printing.proofs.DeclaratorFails.{declared_fixes, declarator_fails_as, carries_name, carries_no_name, pointer_fails, no_declarator_left, named_fails, nameless_fails, declarator_tail_fails, nothing_inside, no_pair_for_declarator, no_pair_for_name, lengthened_fails, lengthened_too_high, bare_fails, bare_later_fails, bare_too_high, lengthens_wrong, array_fails, size_fails, function_fails, first_param_fails, first_param_leads, next_param_fails, next_param_leads, params_unclosed, type_fails}
+use Rattle.c_syntax_printing.proofs.DeclaratorFails.{declared_fixes, declarator_fails_as, carries_name, carries_no_name, pointer_fails, no_declarator_left, named_fails, nameless_fails, declarator_tail_fails, nothing_inside, no_pair_for_declarator, no_pair_for_name, lengthened_fails, lengthened_too_high, bare_fails, bare_later_fails, bare_too_high, lengthens_wrong, array_fails, size_fails, function_fails, first_param_leads, next_param_fails, next_param_leads, params_unclosed, type_fails}
 use Rattle.c_parser_phrases.specs.declared.room.Room.{Room}
 use Rattle.c_parser_phrases.specs.declared.form.Form.{Form}
 use Rattle.c_parser_phrases.specs.declared.form.Form.TheVariants.{Named, Abstract, Either}
@@ -45,6 +45,7 @@ use Rattle.c_parser_phrases.proofs.Declaring.{IsDeclared}
 use Rattle.c_parser_phrases.proofs.Raising.{not_at, ends_at}
 use Rattle.c_parser_phrases.proofs.Refusals.{past_bare, past_after, past_front}
 use Rattle.c_parser_phrases.proofs.Starts.{opening_there, kind_of_name}
+use Rattle.c_syntax_printing.proofs.DeclOpens.{lengthens_there}
 
 -- what was read, whatever its depth
 
@@ -190,11 +191,6 @@ pub inside_declarator_fails : (form : Form) {i k : List Token} → OpensInside f
 inside_declarator_fails form o e b r f = let t = opening_taken form o e in fails_at t.2 (declarator_tail_fails (carries form) t.1 t.3 (fails_first f))
 
 -- what is made of something is something
-made_there : {d at : ℕ} {a e : Declarator} {i j : List Token} → Lengthens d at a e i j → IsThere a → IsThere e
-made_there no_more h = h
-made_there (an_array o s c l) h = made_there l tt
-made_there (a_function o s c l) h = made_there l tt
-
 not_there : {e : Declarator} → e ≡ nothing → IsThere e → ⊥
 not_there q h = subst IsThere q h
 
@@ -206,8 +202,8 @@ core_stays q no_core = refl
 nothing_is : {d : ℕ} {e : Declarator} {i j : List Token} → e ≡ nothing → Declares d e i j → i ≡ j
 nothing_is q (a_pointer o c r) = absurd (not_there q tt)
 nothing_is q (a_direct p c no_more) = core_stays q c
-nothing_is q (a_direct p c (an_array o s z l)) = absurd (not_there q (made_there l tt))
-nothing_is q (a_direct p c (a_function o s z l)) = absurd (not_there q (made_there l tt))
+nothing_is q (a_direct p c (an_array o s z l)) = absurd (not_there q (lengthens_there l tt))
+nothing_is q (a_direct p c (a_function o s z l)) = absurd (not_there q (lengthens_there l tt))
 
 pub nothing_wrong : (form : Form) {d : ℕ} {e : Declarator} {i k m : List Token} → OpensInside form true i → k ≡ drop 1 i → IsDeclared d form e k m → e ≡ nothing → (b : Bound) → Fails (ADeclared (Suits form) b) i m
 nothing_wrong form {i = i} {k = k} o e s q b =
@@ -290,9 +286,6 @@ size_unclosed {j = j} n s f b =
 
 -- parameters
 
-pub param_fails : {i : List Token} (b : Bound) (r : List Token) → Fails (AParam b) i r → Fails (ParamsClosed b) i r
-param_fails b r f = first_param_fails f
-
 pub param_leads : {d : ℕ} {p : ParamTree} (v : Bool) {i j : List Token} → IsParam d p v i j → (b : Bound) (r : List Token) → Fails (EachClosed b) j r → Fails (ParamsClosed b) i r
 param_leads v p b r f = first_param_leads (a_param v p) f
 
@@ -322,9 +315,6 @@ list_fails {i} {k} h e b r f = let t = taken_at LEFT_BRACE i k h e in fails_at t
 
 pub an_init : {room : Room} {v : Init} {i j : List Token} → HasInit room v i j → AnInit any i j
 an_init h = record { depth = _; tree = _; reads = h.reads; stops = h.stops; fits = fits_any }
-
-pub init_fails : {i : List Token} (b : Bound) (r : List Token) → Fails (AnInit b) i r → Fails (InList b) i r
-init_fails b r f = first_init_fails f
 
 pub init_leads : {room : Room} {v : Init} {i j : List Token} → HasInit room v i j → (b : Bound) (r : List Token) → Fails (ListEnd b) j r → Fails (InList b) i r
 init_leads h b r f = first_init_leads (an_init h) f

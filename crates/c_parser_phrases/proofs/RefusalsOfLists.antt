@@ -1,15 +1,15 @@
 -- Where a list of initialisers is followed by what goes on with an expression.
-use Rattle.std.proofs.Common.{◌≡◌, ◌≤◌, ℕ, List, drop, sym, ap, arith}
+use Rattle.std.proofs.Common.{◌≡◌, ◌≤◌, ℕ, List, drop, ap, arith}
 use Rattle.c_lexer.specs.declared.token.Token.{Token}
 use Rattle.c_lexer.specs.declared.punctuator.TheConstants.{LEFT_BRACE}
 use Rattle.c_syntax.specs.Tree.{Init, Inits, list}
 use Rattle.c_syntax.specs.Tokens.{Is}
-use Rattle.c_syntax.specs.Statements.{ReadsInit, an_expression, a_list, a_list_with_comma, ReadsInits, last_init, next_init}
+use Rattle.c_syntax.specs.Statements.{ReadsInit, an_expression, a_list, a_list_with_comma}
 use Rattle.c_syntax_printing.specs.Ranks.{rank}
-use Rattle.c_syntax_printing.proofs.Ranks.{ranked, heads}
+use Rattle.c_syntax_printing.proofs.Ranks.{heads}
 use Rattle.c_syntax_printing.specs.Heads.{head}
 use Rattle.c_syntax_printing.proofs.Heads.{headed, expression_head}
-use Rattle.c_syntax_printing.proofs.OneDecl.{EndsList, brace_ends, comma_ends, after_comma, same_init}
+use Rattle.c_syntax_printing.proofs.OneDecl.{brace_ends, comma_ends, same_inits}
 use Rattle.c_syntax_printing.proofs.FrameStatements.{init_on}
 use Rattle.c_syntax_printing.specs.Fails.{Fails}
 use Rattle.c_syntax_printing.specs.Phrases.{Bound, AnInit}
@@ -19,31 +19,14 @@ use Rattle.c_parser_phrases.specs.declared.room.Room.{Room}
 use Rattle.c_parser_phrases.specs.Lists.{HasList}
 use Rattle.c_parser_phrases.specs.Standing.{IsAt}
 use Rattle.c_parser_phrases.proofs.Exits.{taken_at}
-use Rattle.c_syntax_printing.proofs.OneDecl.{moved_inits}
-
-init_head : {d : ℕ} {a : Init} {i j : List Token} → ReadsInit d a i j → head i ≡ 5 → ⊥
-init_head (an_expression r p) h = omega (arith, expression_head r, h)
-init_head (a_list o r c) h = omega (arith, headed o, h)
-init_head (a_list_with_comma o r c b) h = omega (arith, headed o, h)
-
-inits_head : {d : ℕ} {a : Inits} {i j : List Token} → ReadsInits d a i j → head i ≡ 5 → ⊥
-inits_head (last_init r) h = init_head r h
-inits_head (next_init r c b) h = init_head r h
-
--- lists that stand in one place end in one
-one_end : {d x : ℕ} {a b : Inits} {i j k : List Token} → ReadsInits d a i j → ReadsInits x b i k → EndsList j → EndsList k → j ≡ k
-one_end (last_init r) (last_init v) s z = (same_init r v s.stops z.stops).1
-one_end (last_init r) (next_init v b l) s z = let y = same_init r v s.stops (omega (arith, ranked b)) in absurd (inits_head l (after_comma y.1 s b))
-one_end (next_init r c f) (last_init v) s z = let y = same_init r v (omega (arith, ranked c)) z.stops in absurd (inits_head f (after_comma (sym y.1) z c))
-one_end (next_init r c f) (next_init v b l) s z = let y = same_init r v (omega (arith, ranked c)) (omega (arith, ranked b)) in one_end f (moved_inits (heads y.1).1 l) s z
 
 list_end : {d x at : ℕ} {is : Inits} {b : Init} {i j k : List Token} → ReadsInit d (list at is) i j → ReadsInit x b i k → j ≡ k
 list_end (a_list h r c) (an_expression v q) = absurd (omega (arith, expression_head v, headed h))
 list_end (a_list_with_comma h r c e) (an_expression v q) = absurd (omega (arith, expression_head v, headed h))
-list_end (a_list h r c) (a_list o v b) = (heads (one_end r v (brace_ends c) (brace_ends b))).1
-list_end (a_list h r c) (a_list_with_comma o v b e) = let y = one_end r v (brace_ends c) (comma_ends b e) in absurd (omega (arith, ap head y, headed c, headed b))
-list_end (a_list_with_comma h r c e) (a_list o v b) = let y = one_end r v (comma_ends c e) (brace_ends b) in absurd (omega (arith, ap head y, headed c, headed b))
-list_end (a_list_with_comma h r c e) (a_list_with_comma o v b l) = (heads (heads (one_end r v (comma_ends c e) (comma_ends b l))).1).1
+list_end (a_list h r c) (a_list o v b) = (heads (same_inits r v (brace_ends c) (brace_ends b)).1).1
+list_end (a_list h r c) (a_list_with_comma o v b e) = let y = (same_inits r v (brace_ends c) (comma_ends b e)).1 in absurd (omega (arith, ap head y, headed c, headed b))
+list_end (a_list_with_comma h r c e) (a_list o v b) = let y = (same_inits r v (comma_ends c e) (brace_ends b)).1 in absurd (omega (arith, ap head y, headed c, headed b))
+list_end (a_list_with_comma h r c e) (a_list_with_comma o v b l) = (heads (heads (same_inits r v (comma_ends c e) (comma_ends b l)).1).1).1
 
 list_followed_here : {d at : ℕ} {is : Inits} {i j : List Token} → ReadsInit d (list at is) i j → rank j ≤ 13 → (b : Bound) → Fails (AnInit b) i j
 list_followed_here {d} {at} {is} r q b =

@@ -12,9 +12,6 @@ pub record Alike (A : Type 0) (r s : Checked A) : Type 0 where
 pub alike : {A : Type 0} (r : Checked A) → Alike A r r
 alike r = record { forth = same_leads r; back = same_leads r }
 
-pub turned : {A : Type 0} {r s : Checked A} → Alike A r s → Alike A s r
-turned h = record { forth = h.back; back = h.forth }
-
 -- what is fine here is fine there
 pub fine_there : {A : Type 0} {r s : Checked A} (a : A) → Alike A r s → r ≡ fine a → s ≡ fine a
 fine_there {A} {r} {s} a h e = fine_leads r s a h.forth e

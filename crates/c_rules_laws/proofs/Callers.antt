@@ -1,9 +1,9 @@
--- The items of a unit that is fine: their call expressions are the sites of the functions that they give.
+-- The items of a unit that is fine: what they leave as it is, and that their call expressions are the sites of the functions that they give.
 use Rattle.std.proofs.Common.{◌≡◌, ℕ, ℤ, pos, zero, suc, ◌+◌, Bool, true, false, List, [], ◌∷◌, ◌++◌, map, length, Option, Some, None, nat_le, refl, ap, ap₂, sym, subst, ◌∙◌, arith, append-nil}
 use Rattle.std.specs.Prelude.{flat_map}
 use Rattle.std.specs.List.{range_with_len}
 use Rattle.std.proofs.lemmas.Grind.{flat_map-append}
-use Rattle.c_tree.specs.Tree.{CType, void, integer, pointer, array, struct, function, Function, Program}
+use Rattle.c_tree.specs.Tree.{CType, function, Function, Program}
 use Rattle.c_tree.specs.Tree as typed
 use Rattle.c_tree.specs.Layout.{cells_of_all}
 use Rattle.c_tree.specs.Sites.{sites_of_function}
@@ -12,18 +12,17 @@ use Rattle.c_syntax.specs.Tree as syntax
 use Rattle.dm_base.specs.declared.mode.Mode.{Mode}
 use Rattle.c_rules.specs.Checked.{Checked, fine, on, demand, met}
 use Rattle.c_rules.specs.Limits.{most_local_cells}
-use Rattle.c_rules.specs.Scopes.{Env, evaluated, inside, layout_of, Before, nothing_before}
+use Rattle.c_rules.specs.Names.{Name}
+use Rattle.c_rules.specs.Scopes.{Env, evaluated, inside, layout_of, Before, nothing_before, Whole, Context}
 use Rattle.c_rules.specs.Declarators.{name_of, place_or}
 use Rattle.c_rules.specs.Expressions.{type_declared}
-use Rattle.c_rules.specs.Initialisers.{initialised_static}
-use Rattle.c_rules.specs.Objects.{Object}
 use Rattle.c_rules.specs.Variables.{Next, name_or_empty, calls_of_stmt, calls_of_block}
 use Rattle.c_rules.specs.Blocks.{StatementTree, held_by_block}
 use Rattle.c_rules.specs.Statements.{Around, items_of_block}
 use Rattle.c_rules.specs.Functions.{declares_function, parameters_of, are_named, variables_of, function_laid, body_env, body_numbers, body_of, function_declared, items_of_body, defined_as}
-use Rattle.c_rules.specs.Items.{Output, no_output, with_output, static_of, without_init, output_of_function, defines, global_declared, within_global, after_object, definition_of, global, declared_part, named_part, enumerator_value, behind_enumerator, one_more_than, behind_enumerators, behind_enum_tag, behind_declared, behind_named_part, behind_file_part, after_file_part, behind_file_parts, file_parts, file_decl, behind_defined, function_named, behind_function_named, item, behind_item, after_item, items}
+use Rattle.c_rules.specs.Items.{Output, no_output, with_output, static_of, without_init, output_of_function, defines, global_declared, within_global, definition_of, global, declared_part, named_part, enumerator_value, behind_enumerator, one_more_than, behind_enumerators, behind_enum_tag, behind_declared, behind_named_part, behind_file_part, after_file_part, behind_file_parts, file_parts, file_decl, behind_defined, function_named, behind_function_named, item, behind_item, after_item, items, behind_by_form}
 use Rattle.c_rules.specs.Units.{env_before, has_main, program_of, IsTyped}
-use Rattle.c_rules_laws.proofs.Holding.{held, first_fine, on_fine, demand_fine}
+use Rattle.c_rules_laws.proofs.Holding.{held, first_fine, on_fine, demand_fine, Holds, both_hold, Any, anything, after_part as behind_any, fine_same}
 use Rattle.c_rules.proofs.CheckedLemmas.{items_fine}
 use Rattle.c_rules_laws.proofs.Definitions.{definition_fine}
 use Rattle.c_rules_laws.proofs.SitesOfStatements.{StmtsSpan, block_span}
@@ -32,7 +31,6 @@ use Rattle.c_rules.specs.PlacesOfCalls.{places_of_stmt}
 use Rattle.c_rules_laws.specs.AreSites.{caller_of, callers_of_function, callers_of_program, AreSitesOf}
 use Rattle.c_rules_laws.proofs.CountedCalls.{stmt_counted, block_counted}
 use Rattle.c_rules_laws.proofs.Spans.{params_context}
-use Rattle.c_rules_laws.proofs.UnitShape.{output_same}
 
 -- ## Lists
 
@@ -61,38 +59,32 @@ callers_long (c ∷ cs) = ap suc (callers_long cs)
 
 -- ## Items that define no function
 
-nothing : (q : Output) → fine no_output ≡ fine q → q.functions ≡ []
-nothing q e = sym (ap (λ z. z.functions) (output_same no_output q e))
+abbrev pub NoFunctions : Output → Type 0
+NoFunctions o = o.functions ≡ []
 
-object_none : (env : Env) (k : Bool) (b : Before) (x : Ident) (m : MaybeInit) (r : Checked Object) (q : Output) → global env k b x m r ≡ fine q → q.functions ≡ []
-object_none env false b x m r q e = (let i = on_fine r (λ _. fine no_output) q e in nothing q i.2)
-object_none env true b x m r q e =
-    let inner : Env = within_global env true x r in
-    let i = on_fine r (definition_of inner b m) q e in
-    let j = on_fine (initialised_static inner (after_object inner b i.0.whole) i.0.whole m) (λ gs. fine (static_of i.0 gs)) q i.2 in
-    sym (ap (λ z. z.functions) (output_same (static_of i.0 j.0) q j.2))
+nothing : (q : Output) → fine no_output ≡ fine q → NoFunctions q
+nothing q e = sym (ap (λ z. z.functions) (fine_same no_output q e))
 
-part_none : (env : Env) (b : Before) (at : ℕ) (class : Storage) (s : Spec) (d : Declarator) (m : MaybeInit) (o : Option Ident) (q : Output) → named_part env b at class s d m o ≡ fine q → q.functions ≡ []
-part_none env b at class s d m None q e = absurd (cc)
-part_none env b at class s d m (Some x) q e = by_kind (declares_function d) e
+part_none : (e : Env) (b : Before) (at : ℕ) (class : Storage) (s : Spec) (d : Declarator) (m : MaybeInit) (o : Option Ident) → Holds NoFunctions (named_part e b at class s d m o)
+part_none e b at class s d m None = tt
+part_none e b at class s d m (Some x) = by_kind (declares_function d)
   where
-    by_kind : (k : Bool) → declared_part env b at class s d m k x ≡ fine q → q.functions ≡ []
-    by_kind true e = (let i = first_fine (function_declared env false at s d x) (without_init m) (λ _ _. fine no_output) q e in nothing q i.4)
-    by_kind false e = object_none env (defines class m) b x m (global_declared env (defines class m) b at s d x m) q e
+    by_global : (k : Bool) (r : Checked _) → Holds NoFunctions (global e k b x m r)
+    by_global false r = behind_any NoFunctions r (λ _. fine no_output) (λ _. refl)
+    by_global true r = behind_any NoFunctions r (definition_of (within_global e true x r) b m) (λ o. behind_any NoFunctions _ (λ gs. fine (static_of o gs)) (λ _. refl))
 
-none_both : (p q r : Output) → fine (with_output p q) ≡ fine r → p.functions ≡ [] → q.functions ≡ [] → r.functions ≡ []
-none_both p q r e f g = sym (ap (λ z. z.functions) (output_same (with_output p q) r e)) ∙ ap₂ (λ xs ys. xs ++ ys) f g
+    by_kind : (t : Bool) → Holds NoFunctions (declared_part e b at class s d m t x)
+    by_kind true = both_hold Any Any NoFunctions (function_declared e false at s d x) (without_init m) (λ _ _. fine no_output) (anything _) (anything _) (λ _ _ _ _. refl)
+    by_kind false = by_global (defines class m) (global_declared e (defines class m) b at s d x m)
 
-parts_none : (ps : Parts) (env : Env) (b : Before) (at : ℕ) (class : Storage) (s : Spec) (q : Output) → file_parts env b at class s ps ≡ fine q → q.functions ≡ []
-parts_none no_parts env b at class s q e = nothing q e
-parts_none (more_parts d m ps) env b at class s q e =
-    let inner : Env = behind_file_part env b at class s d m in
-    let after : Before = after_file_part env b at class s d m in
-    let i = first_fine (named_part env b at class s d m (name_of d)) (file_parts inner after at class s ps) (λ p q. fine (with_output p q)) q e in
-    none_both i.0 i.1 q i.4 (part_none env b at class s d m (name_of d) i.0 i.2) (parts_none ps inner after at class s i.1 i.3)
+parts_none : (ps : Parts) (e : Env) (b : Before) (at : ℕ) (class : Storage) (s : Spec) → Holds NoFunctions (file_parts e b at class s ps)
+parts_none no_parts e b at class s = refl
+parts_none (more_parts d m ps) e b at class s =
+    both_hold NoFunctions NoFunctions NoFunctions (named_part e b at class s d m (name_of d)) (file_parts (behind_file_part e b at class s d m) (after_file_part e b at class s d m) at class s ps) (λ p q. fine (with_output p q))
+    (part_none e b at class s d m (name_of d)) (parts_none ps (behind_file_part e b at class s d m) (after_file_part e b at class s d m) at class s) (λ p q h k. ap₂ (λ xs ys. xs ++ ys) h k)
 
-decl_none : (d : Decl) (env : Env) (b : Before) (q : Output) → file_decl env b d ≡ fine q → q.functions ≡ []
-decl_none (decl at class s ps) env b q e = parts_none ps env b at class s q e
+pub decl_none : (d : Decl) (e : Env) (b : Before) → Holds NoFunctions (file_decl e b d)
+decl_none (decl at class s ps) e b = parts_none ps e b at class s
 
 -- ## Functions
 
@@ -115,28 +107,14 @@ function_callers env c b place d x is (function t ts) f e =
     let runs : inner.context ≡ evaluated = params_context (parameters_of d) ts (inside env) 0 ∙ c in
     let h : StmtsSpan b (calls_of_block is) (held_by_block inner next is) q = held (StmtsSpan b (calls_of_block is) (held_by_block inner next is)) (items_of_block inner around b next is) q (block_span is inner runs around b next) i.3 in
     (ap (λ (g : Function). g.name) (sym j.1), subst (λ (g : Function). length (sites_of_function g) ≡ calls_of_block is) j.1 (ap length h.0 ∙ range_long b.sites (calls_of_block is)))
-function_callers env c b place d x is void f e = absurd (cc)
-function_callers env c b place d x is (integer i) f e = absurd (cc)
-function_callers env c b place d x is (pointer t) f e = absurd (cc)
-function_callers env c b place d x is (array t n) f e = absurd (cc)
-function_callers env c b place d x is (struct n) f e = absurd (cc)
+function_callers env c b place d x is u f e = absurd (cc)
 
 alone : (s : Stmt) → length (places_of_stmt s) ≡ calls_of_stmt s + 0
 alone s = (let e = stmt_counted s in omega (arith, e))
 
 body_counted : (s : Stmt) → length (places_of_stmt s) ≡ calls_of_block (items_of_body s)
 body_counted (syntax.block at is) = block_counted is
-body_counted (syntax.empty at) = alone (syntax.empty at)
-body_counted (syntax.evaluate at e) = alone (syntax.evaluate at e)
-body_counted (syntax.only_if at e s) = alone (syntax.only_if at e s)
-body_counted (syntax.if_else at e s t) = alone (syntax.if_else at e s t)
-body_counted (syntax.while_loop at e s) = alone (syntax.while_loop at e s)
-body_counted (syntax.do_loop at s e) = alone (syntax.do_loop at s e)
-body_counted (syntax.for_loop at f t u s) = alone (syntax.for_loop at f t u s)
-body_counted (syntax.switch_on at e gs) = alone (syntax.switch_on at e gs)
-body_counted (syntax.break_off at) = alone (syntax.break_off at)
-body_counted (syntax.continue_on at) = alone (syntax.continue_on at)
-body_counted (syntax.return_from at m) = alone (syntax.return_from at m)
+body_counted s = alone s
 
 definition_callers : (env : Env) → env.context ≡ evaluated → (b : Before) (at : ℕ) (s : Spec) (d : Declarator) (body : Stmt) (k : Bool) (o : Option Ident) (q : Output) → name_of d ≡ o → function_named env b at s d body k o ≡ fine q
     → map caller_of (map (called_in (declared_name d)) (places_of_stmt body)) ≡ flat_map callers_of_function q.functions
@@ -153,53 +131,62 @@ definition_callers env w b at s d body true (Some x) q n e =
     let long : length (places_of_stmt body) ≡ length (sites_of_function f) = body_counted body ∙ sym h.1 in
     repeated (declared_name d) f.name (places_of_stmt body) (sites_of_function f) name long
     ∙ sym (append-nil (callers_of_function f))
-    ∙ ap (λ (z : Output). flat_map callers_of_function z.functions) (output_same (output_of_function f) q i.4)
+    ∙ ap (λ (z : Output). flat_map callers_of_function z.functions) (fine_same (output_of_function f) q i.4)
 
--- ## Scopes: calls are evaluated in those behind each item
+-- ## Scopes: the form changes neither the tags that stand before, nor what is known of the whole unit, nor where calls stand
 
-enumerators_context : (es : Enumerators) (env : Env) (before : Checked ℤ) → (behind_enumerators env before es).context ≡ env.context
-enumerators_context no_enumerators env before = refl
-enumerators_context (more_enumerators x m es) env before =
-    enumerators_context es (behind_enumerator env x (enumerator_value env before x m)) (one_more_than (enumerator_value env before x m))
+abbrev kept : Env → List Name × Whole × Context
+kept env = (env.tags, env.whole, env.context)
 
-tag_context : (env : Env) (t : Tag) → (behind_enum_tag env t).context ≡ env.context
-tag_context env no_tag = refl
-tag_context env (tag x) = refl
+enumerators_kept : (es : Enumerators) (env : Env) (before : Checked ℤ) → kept (behind_enumerators env before es) ≡ kept env
+enumerators_kept no_enumerators env before = refl
+enumerators_kept (more_enumerators x m es) env before =
+    enumerators_kept es (behind_enumerator env x (enumerator_value env before x m)) (one_more_than (enumerator_value env before x m))
 
-declared_context : (env : Env) (b : Before) (at : ℕ) (class : Storage) (s : Spec) (d : Declarator) (m : MaybeInit) (k : Bool) (x : Ident) → (behind_declared env b at class s d m k x).context ≡ env.context
-declared_context env b at class s d m true x = refl
-declared_context env b at class s d m false x = refl
+tag_kept : (env : Env) (t : Tag) → kept (behind_enum_tag env t) ≡ kept env
+tag_kept env no_tag = refl
+tag_kept env (tag x) = refl
 
-part_context : (env : Env) (b : Before) (at : ℕ) (class : Storage) (s : Spec) (d : Declarator) (m : MaybeInit) (o : Option Ident) → (behind_named_part env b at class s d m o).context ≡ env.context
-part_context env b at class s d m None = refl
-part_context env b at class s d m (Some x) = declared_context env b at class s d m (declares_function d) x
+declared_kept : (env : Env) (b : Before) (at : ℕ) (class : Storage) (s : Spec) (d : Declarator) (m : MaybeInit) (k : Bool) (x : Ident) → kept (behind_declared env b at class s d m k x) ≡ kept env
+declared_kept env b at class s d m true x = refl
+declared_kept env b at class s d m false x = refl
 
-parts_context : (ps : Parts) (env : Env) (b : Before) (at : ℕ) (class : Storage) (s : Spec) → (behind_file_parts env b at class s ps).context ≡ env.context
-parts_context no_parts env b at class s = refl
-parts_context (more_parts d m ps) env b at class s =
-    parts_context ps (behind_file_part env b at class s d m) (after_file_part env b at class s d m) at class s ∙ part_context env b at class s d m (name_of d)
+part_kept : (env : Env) (b : Before) (at : ℕ) (class : Storage) (s : Spec) (d : Declarator) (m : MaybeInit) (o : Option Ident) → kept (behind_named_part env b at class s d m o) ≡ kept env
+part_kept env b at class s d m None = refl
+part_kept env b at class s d m (Some x) = declared_kept env b at class s d m (declares_function d) x
 
-definition_context : (env : Env) (at : ℕ) (s : Spec) (d : Declarator) (o : Option Ident) → (behind_function_named env at s d o).context ≡ env.context
-definition_context env at s d None = refl
-definition_context env at s d (Some x) = refl
+parts_kept : (ps : Parts) (env : Env) (b : Before) (at : ℕ) (class : Storage) (s : Spec) → kept (behind_file_parts env b at class s ps) ≡ kept env
+parts_kept no_parts env b at class s = refl
+parts_kept (more_parts d m ps) env b at class s =
+    parts_kept ps (behind_file_part env b at class s d m) (after_file_part env b at class s d m) at class s ∙ part_kept env b at class s d m (name_of d)
 
-form_context : (i : Item) (env : Env) (b : Before) → (behind_item env b i).context ≡ env.context
-form_context (struct_item at x ms) env b = refl
-form_context (enum_item at x es) env b = tag_context (behind_enumerators env (fine (pos 0)) es) x ∙ enumerators_context es env (fine (pos 0))
-form_context (tag_item at x) env b = refl
-form_context (decl_item at (decl here class s ps)) env b = parts_context ps env b here class s
-form_context (function_item at class s d body) env b = definition_context env at s d (name_of d)
+definition_kept : (env : Env) (at : ℕ) (s : Spec) (d : Declarator) (o : Option Ident) → kept (behind_function_named env at s d o) ≡ kept env
+definition_kept env at s d None = refl
+definition_kept env at s d (Some x) = refl
+
+form_kept : (i : Item) (env : Env) (b : Before) → kept (behind_by_form env b i) ≡ kept env
+form_kept (struct_item at x ms) env b = refl
+form_kept (enum_item at x es) env b = tag_kept (behind_enumerators env (fine (pos 0)) es) x ∙ enumerators_kept es env (fine (pos 0))
+form_kept (tag_item at x) env b = refl
+form_kept (decl_item at (decl here class s ps)) env b = parts_kept ps env b here class s
+form_kept (function_item at class s d body) env b = definition_kept env at s d (name_of d)
+
+pub form_tags : (i : Item) (env : Env) (b : Before) → (behind_by_form env b i).tags ≡ env.tags
+form_tags i env b = ap (λ k. k.0) (form_kept i env b)
+
+pub form_whole : (i : Item) (env : Env) (b : Before) → (behind_by_form env b i).whole ≡ env.whole
+form_whole i env b = ap (λ k. k.1) (form_kept i env b)
 
 -- ## Items
 
-none_here : (q : Output) → q.functions ≡ [] → [] ≡ flat_map callers_of_function q.functions
+none_here : (q : Output) → NoFunctions q → [] ≡ flat_map callers_of_function q.functions
 none_here q e = sym (ap (flat_map callers_of_function) e)
 
 form_callers : (i : Item) (env : Env) → env.context ≡ evaluated → (b : Before) (q : Output) → item env b i ≡ fine q → map caller_of (call_places_of_item i) ≡ flat_map callers_of_function q.functions
 form_callers (struct_item at x ms) env w b q e = (let i = on_fine _ (λ _. fine no_output) q e in none_here q (nothing q i.2))
 form_callers (enum_item at x es) env w b q e = (let i = first_fine _ _ (λ _ _. fine no_output) q e in none_here q (nothing q i.4))
 form_callers (tag_item at x) env w b q e = (let i = on_fine _ (λ _. fine no_output) q e in none_here q (nothing q i.2))
-form_callers (decl_item at d) env w b q e = none_here q (decl_none d env b q e)
+form_callers (decl_item at d) env w b q e = none_here q (held NoFunctions (file_decl env b d) q (decl_none d env b) e)
 form_callers (function_item at class s d body) env w b q e = definition_callers env w b at s d body (declares_function d) (name_of d) q refl e
 
 items_callers : (is : Items) (env : Env) → env.context ≡ evaluated → (b : Before) (q : Output) → items env b is ≡ fine q → map caller_of (call_places is) ≡ flat_map callers_of_function q.functions
@@ -209,9 +196,9 @@ items_callers (more_items i is) env w b q e =
     let after : Before = after_item env b i in
     let f = first_fine (item env b i) (items inner after is) (λ p q. fine (with_output p q)) q e in
     callers_append (call_places_of_item i) (call_places is)
-    ∙ ap₂ (λ xs ys. xs ++ ys) (form_callers i env w b f.0 f.2) (items_callers is inner (form_context i env b ∙ w) after f.1 f.3)
+    ∙ ap₂ (λ xs ys. xs ++ ys) (form_callers i env w b f.0 f.2) (items_callers is inner (ap (λ k. k.2) (form_kept i env b) ∙ w) after f.1 f.3)
     ∙ sym (flat_map-append callers_of_function f.0.functions f.1.functions)
-    ∙ ap (λ (z : Output). flat_map callers_of_function z.functions) (output_same (with_output f.0 f.1) q f.4)
+    ∙ ap (λ (z : Output). flat_map callers_of_function z.functions) (fine_same (with_output f.0 f.1) q f.4)
 
 -- ## Units
 

@@ -3,7 +3,8 @@ use Rattle.std.proofs.Common.{◌≡◌, ℕ, ℤ, Bool, true, false}
 use Rattle.c_tree.specs.declared.value.IntType.{IntType}
 use Rattle.c_tree.specs.declared.value.UnOp.{UnOp}
 use Rattle.c_tree.specs.declared.value.BinOp.{BinOp}
-use Rattle.c_rules.specs.TypedExpression.{Constant, not_constant, is_known_zero, integer_constant_if}
+use Rattle.c_rules.specs.Types.{is_integer}
+use Rattle.c_rules.specs.TypedExpression.{Constant, not_constant, is_known_zero, integer_constant_if, TypedExpression, integer_constant}
 use Rattle.c_rules.specs.Constants.{constant_converted, constant_unary, constant_binary, constant_and, constant_or, constant_conditional, constant_member, constant_decayed, constant_moved}
 use Rattle.c_rules_laws.specs.ConstantForm.{IsConst}
 
@@ -18,6 +19,10 @@ unary_const o c h = tt
 pub integer_const : (b : Bool) (c : Constant) → IsConst (integer_constant_if b c) → IsConst c
 integer_const true c h = h
 integer_const false c h = absurd h
+
+-- two operands of which a rule on integer constants gives a constant
+pub two_const : (a b : TypedExpression) (f : Constant → Constant → Constant) → ((c d : Constant) → IsConst (f c d) → IsConst c × IsConst d) → IsConst (f (integer_constant a) (integer_constant b)) → IsConst a.constant × IsConst b.constant
+two_const a b f k h = (let w = k (integer_constant a) (integer_constant b) h in (integer_const (is_integer a.ctype) a.constant w.0, integer_const (is_integer b.ctype) b.constant w.1))
 
 pub decayed_const : (n : ℕ) (c : Constant) → IsConst (constant_decayed n c) → IsConst c
 decayed_const n not_constant h = h

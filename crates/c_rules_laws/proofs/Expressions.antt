@@ -1,17 +1,19 @@
 -- What expressions, names of types and declarators give without their places.
-use Rattle.std.proofs.Common.{◌≡◌, ℕ, suc, ◌+◌, Bool, true, false, ◌&&◌, List, [], ◌∷◌, ◌++◌, Option, Some, None, nat_eq, refl, sym, ap, ap₂, subst}
+use Rattle.std.proofs.Common.{◌≡◌, ℕ, suc, ◌+◌, Bool, true, false, ◌&&◌, List, [], ◌∷◌, ◌++◌, length, length-append, Option, Some, None, nat_eq, ◌∙◌, refl, sym, ap, ap₂, subst}
 use Rattle.c_lexer.specs.declared.punctuator.TheConstants.{AMPERSAND}
 use Rattle.c_tree.specs.declared.value.BinOp.TheVariants.{Add, Sub}
 use Rattle.c_tree.specs.Tree.{CType, CTypes, no_types, more_types}
 use Rattle.c_syntax.specs.Tree.{Spec, Expr, a_name, a_str, comma, sizeof_type, cast, call, member, postfix, prefix, unary, index, binary, assign, conditional, Exprs, no_exprs, more_exprs, Maybe, absent, there}
-use Rattle.c_syntax.specs.Tree.{Postfix, post_increment, post_decrement, Prefix, pre_increment, pre_decrement, sizeof, Access, dot, arrow, Infix, and, or, operator}
+use Rattle.c_syntax.specs.Tree.{Postfix, post_increment, post_decrement, Prefix, pre_increment, pre_decrement, sizeof, Access, dot, arrow}
 use Rattle.c_syntax.specs.Tree.{TypeName, type_name, Declarator, nothing, pointer, array, function, Params, no_params, more_params}
 use Rattle.c_syntax.specs.Tree as syntax
 use Rattle.c_syntax.specs.Same.{unplaced_spec, unplaced, unplaced_exprs, unplaced_maybe, unplaced_type, unplaced_declarator, unplaced_params}
 use Rattle.c_rules.specs.Checked.{Checked, fine, on}
 use Rattle.c_rules.specs.Names.{Name}
 use Rattle.c_rules.specs.Scopes.{Env, Binding, Meaning, a_function, Before, nothing_before, sized, folded, in_context, inside, binding_of}
-use Rattle.c_rules.specs.Counts.{place_of, calls, calls_of_all, strings, strings_of_all, unless_sizeof, past, after, after_designator}
+use Rattle.c_rules.specs.Counts.{place_of, calls, calls_of_all, strings, strings_of_all, past, after, after_designator}
+use Rattle.c_rules.specs.PlacesOfCalls.{places, places_of_all}
+use Rattle.c_rules.specs.Tags.{tags_of_spec, tags_of_expr, tags_of_exprs, tags_of_maybe, tags_of_type, tags_of_declarator, tags_of_params}
 use Rattle.c_rules.specs.TypedExpression.{TypedExpression}
 use Rattle.c_rules.specs.Conversions.{valued}
 use Rattle.c_rules.specs.PostfixExpressions.{Callee, site_of, callee_by_value, called, member_of}
@@ -26,30 +28,65 @@ use Rattle.c_rules_laws.proofs.Declared.{spec_alike, pointer_alike, array_alike,
 
 -- ## Counts
 
-unless_same : {A : Type 0} (op : Prefix) (a b c : A) → a ≡ b → unless_sizeof op a c ≡ unless_sizeof op b c
-unless_same op a b c e = ap (λ x. unless_sizeof op x c) e
+pub joins : {A : Type 0} {u v x y : List A} → u ≡ v → x ≡ y → u ++ x ≡ v ++ y
+joins {A = A} e f = ap₂ (λ (v : List A) w. v ++ w) e f
 
-pub counts_both : {A : Type 0} {k l m n : ℕ} {v w x y : List A} → (k ≡ l) × (v ≡ w) → (m ≡ n) × (x ≡ y) → (k + m ≡ l + n) × (v ++ x ≡ w ++ y)
-counts_both h g = (ap₂ (λ m n. m + n) h.0 g.0, ap₂ (λ v w. v ++ w) h.1 g.1)
+pub long_both : {A : Type 0} {n m : ℕ} (xs ys : List A) → length xs ≡ n → length ys ≡ m → length (xs ++ ys) ≡ n + m
+long_both xs ys e f = length-append xs ys ∙ ap₂ (λ v w. v + w) e f
 
+counts_both : {A B : Type 0} {k l m n : ℕ} {v w x y : List A} {b c d e : List B} (xs ys : List ℕ) → (k ≡ l) × (v ≡ w) × (b ≡ c) × (length xs ≡ l) → (m ≡ n) × (x ≡ y) × (d ≡ e) × (length ys ≡ n)
+    → (k + m ≡ l + n) × (v ++ x ≡ w ++ y) × (b ++ d ≡ c ++ e) × (length (xs ++ ys) ≡ l + n)
+counts_both xs ys h g = (ap₂ (λ m n. m + n) h.0 g.0, joins h.1 g.1, joins h.2 g.2, long_both xs ys h.3 g.3)
+
+pub spec_tags : (s : Spec) → tags_of_spec (unplaced_spec s) ≡ tags_of_spec s
+spec_tags syntax.void = refl
+spec_tags s = refl
+
+-- calls, strings and tags; and as many call expressions stand in an expression as the rules count calls in it
 mutual
-  counts_same : (e : Expr) → (calls (unplaced e) ≡ calls e) × (strings (unplaced e) ≡ strings e)
+  counts_same : (e : Expr) → (calls (unplaced e) ≡ calls e) × (strings (unplaced e) ≡ strings e) × (tags_of_expr (unplaced e) ≡ tags_of_expr e) × (length (places e) ≡ calls e)
   counts_same (comma at es) = all_counts_same es
-  counts_same (cast at t e) = counts_same e
-  counts_same (call at d es) = (let h = all_counts_same es in counts_both (counts_same d) (ap suc h.0, h.1))
+  counts_same (sizeof_type at t) = (refl, refl, type_tags t, refl)
+  counts_same (cast at t e) = (let h = counts_same e in (h.0, h.1, joins (type_tags t) h.2, h.3))
+  counts_same (call at d es) = (let h = all_counts_same es in counts_both (places d) (at ∷ places_of_all es) (counts_same d) (ap suc h.0, h.1, h.2, ap suc h.3))
   counts_same (member at how e x) = counts_same e
   counts_same (postfix at op e) = counts_same e
-  counts_same (prefix at op e) = (let h = counts_same e in (unless_same op (calls (unplaced e)) (calls e) 0 h.0, unless_same op (strings (unplaced e)) (strings e) [] h.1))
+  counts_same (prefix at pre_increment e) = counts_same e
+  counts_same (prefix at pre_decrement e) = counts_same e
+  counts_same (prefix at sizeof e) = (refl, refl, (counts_same e).2, refl)
   counts_same (unary at op e) = counts_same e
-  counts_same (index at a b) = counts_both (counts_same a) (counts_same b)
-  counts_same (binary at op a b) = counts_both (counts_same a) (counts_same b)
-  counts_same (assign at op a b) = counts_both (counts_same a) (counts_same b)
-  counts_same (conditional at c a b) = counts_both (counts_same c) (counts_both (counts_same a) (counts_same b))
-  counts_same e = (refl, refl)
+  counts_same (index at a b) = counts_both (places a) (places b) (counts_same a) (counts_same b)
+  counts_same (binary at op a b) = counts_both (places a) (places b) (counts_same a) (counts_same b)
+  counts_same (assign at op a b) = counts_both (places a) (places b) (counts_same a) (counts_same b)
+  counts_same (conditional at c a b) = counts_both (places c) (places a ++ places b) (counts_same c) (counts_both (places a) (places b) (counts_same a) (counts_same b))
+  counts_same e = (refl, refl, refl, refl)
 
-  all_counts_same : (es : Exprs) → (calls_of_all (unplaced_exprs es) ≡ calls_of_all es) × (strings_of_all (unplaced_exprs es) ≡ strings_of_all es)
-  all_counts_same no_exprs = (refl, refl)
-  all_counts_same (more_exprs e es) = counts_both (counts_same e) (all_counts_same es)
+  all_counts_same : (es : Exprs) → (calls_of_all (unplaced_exprs es) ≡ calls_of_all es) × (strings_of_all (unplaced_exprs es) ≡ strings_of_all es) × (tags_of_exprs (unplaced_exprs es) ≡ tags_of_exprs es) × (length (places_of_all es) ≡ calls_of_all es)
+  all_counts_same no_exprs = (refl, refl, refl, refl)
+  all_counts_same (more_exprs e es) = counts_both (places e) (places_of_all es) (counts_same e) (all_counts_same es)
+
+  pub maybe_tags : (m : Maybe) → tags_of_maybe (unplaced_maybe m) ≡ tags_of_maybe m
+  maybe_tags absent = refl
+  maybe_tags (there e) = (counts_same e).2
+
+  type_tags : (t : TypeName) → tags_of_type (unplaced_type t) ≡ tags_of_type t
+  type_tags (type_name at s d) = joins (spec_tags s) (declarator_tags d)
+
+  pub declarator_tags : (d : Declarator) → tags_of_declarator (unplaced_declarator d) ≡ tags_of_declarator d
+  declarator_tags (pointer at d) = declarator_tags d
+  declarator_tags (array at d size) = joins (declarator_tags d) (maybe_tags size)
+  declarator_tags (function at d ps) = joins (declarator_tags d) (params_tags ps)
+  declarator_tags d = refl
+
+  params_tags : (ps : Params) → tags_of_params (unplaced_params ps) ≡ tags_of_params ps
+  params_tags no_params = refl
+  params_tags (more_params at s d ps) = joins (spec_tags s) (joins (declarator_tags d) (params_tags ps))
+
+pub expr_tags : (e : Expr) → tags_of_expr (unplaced e) ≡ tags_of_expr e
+expr_tags e = (counts_same e).2
+
+pub expr_counted : (e : Expr) → length (places e) ≡ calls e
+expr_counted e = (counts_same e).3
 
 pub calls_same : (e : Expr) → calls (unplaced e) ≡ calls e
 calls_same e = (counts_same e).0

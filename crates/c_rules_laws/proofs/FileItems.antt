@@ -30,7 +30,7 @@ use Rattle.c_rules_laws.specs.RightScopes.{IsThing}
 use Rattle.c_rules_laws.proofs.Holding.{Holds, held, holds_map, holds_two, on_holds, both_hold, Any, anything, demand_holds, behind_demand, after_part, first_fine, on_fine, and_left, and_right, fine_same}
 use Rattle.c_rules_laws.proofs.MadeTypes.{type_is}
 use Rattle.c_rules_laws.proofs.SoundStructs.{grows_same}
-use Rattle.c_rules_laws.proofs.TypesOfTypedExpressions.{sized_few}
+use Rattle.c_rules_laws.proofs.MadeTypes.{sized_few}
 use Rattle.c_rules_laws.proofs.TypesOfExpressions.{type_declared_made}
 use Rattle.c_rules_laws.proofs.RightDeclarations.{IsObjectRight, declared_right}
 use Rattle.c_rules_laws.proofs.FileScopes.{struct_defined, MembersRight, members_right, all_types, some_members, FileMeaning, IsFileRight, Agrees, agrees_self, Follows, follows_self, follows_on, file_named, file_structs}
@@ -262,13 +262,6 @@ object_named env defined b at s d x m =
     (λ o h. on_holds (λ _. (may_follow_object defined o.whole (declared_here env x.name) ≡ true) × (defined ≡ true → b.cells + cells (layout_of env) o.whole ≤ 1048576)) (IsObjectNamed env defined b x) (and_also (object_name env defined x o.whole) (few_static env defined b x o.whole)) _
     (both_hold (λ _. may_follow_object defined o.whole (declared_here env x.name) ≡ true) (λ _. defined ≡ true → b.cells + cells (layout_of env) o.whole ≤ 1048576) (λ _. (may_follow_object defined o.whole (declared_here env x.name) ≡ true) × (defined ≡ true → b.cells + cells (layout_of env) o.whole ≤ 1048576)) (object_name env defined x o.whole) (few_static env defined b x o.whole) _ (object_follows env defined x o.whole) (object_few env defined b x o.whole) (λ _ _ k l. (k, l)))
     (λ _ k. record { right = h; follows = k.0; few = k.1 }))
-
--- an object that is named is the one that is declared
-pub object_declared_same : (env : Env) (defined : Bool) (b : Before) (at : ℕ) (s : Spec) (d : Declarator) (x : Ident) (m : MaybeInit) (o : Object) → global_declared env defined b at s d x m ≡ fine o → object_declared env at s d x m ≡ fine o
-object_declared_same env defined b at s d x m o e =
-    let i = on_fine (object_declared env at s d x m) (global_object env defined b x) o e in
-    let j = on_fine (and_also (object_name env defined x i.0.whole) (few_static env defined b x i.0.whole)) (λ _. fine i.0) o i.2 in
-    i.1 ∙ j.2
 
 object_step : (env : Env) (defined : Bool) (b : Before) (x : Ident) (r : Checked Object) (o : Object) → IsFileRight env → r ≡ fine o → IsObjectNamed env defined b x o → Step env (behind_global env defined x r)
 object_step env defined b x r o w e h =

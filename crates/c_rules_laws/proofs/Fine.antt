@@ -20,7 +20,7 @@ pub statements_well_typed : StatementsAreWellTyped
 statements_well_typed p vars env w a b next s l t q e f g = (let h : StmtRight p vars env a next (names_of_stmt s) q = held (StmtRight p vars env a next (names_of_stmt s)) (stmt env a b next s) q (stmt_right p vars s env a b next l t) e in (h.right w (f, g)).0)
 
 pub expressions_sites : ExpressionsHaveSites
-expressions_sites env c b x g e = (let h : Counted b (calls x) (strings x) g = held (Counted b (calls x) (strings x)) (value env b x) g (value_counted x env c b) e in h.0.0)
+expressions_sites env c b x g e = (let h : Counted 30000 b (calls x) (strings x) g = held (Counted 30000 b (calls x) (strings x)) (value env b x) g (value_counted x env c b) e in h.0.0)
 
 pub statements_sites : StatementsHaveSites
 statements_sites env c a b next s q e = (let h : StmtSpan b (calls_of_stmt s) (held_by_stmt env next s) q = held (StmtSpan b (calls_of_stmt s) (held_by_stmt env next s)) (stmt env a b next s) q (stmt_span s env c a b next) e in h.0)

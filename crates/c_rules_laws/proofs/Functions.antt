@@ -26,31 +26,23 @@ use Rattle.c_rules_laws.proofs.Statements.{items_alike, held_by_block_same}
 
 -- ## Declarators of functions
 
-pub declares_same : (d : Declarator) → declares_function (unplaced_declarator d) ≡ declares_function d
-declares_same (syntax.pointer at d) = declares_same d
-declares_same (syntax.array at d size) = declares_same d
-declares_same (syntax.function at (syntax.named here x) ps) = refl
-declares_same (syntax.function at d ps) = declares_same d
-declares_same d = refl
+declarator_same : (d : Declarator) → (declares_function (unplaced_declarator d) ≡ declares_function d) × (parameters_of (unplaced_declarator d) ≡ unplaced_params (parameters_of d))
+declarator_same (syntax.pointer at d) = declarator_same d
+declarator_same (syntax.array at d size) = declarator_same d
+declarator_same (syntax.function at (syntax.named here x) ps) = (refl, refl)
+declarator_same (syntax.function at d ps) = declarator_same d
+declarator_same d = (refl, refl)
 
-parameters_same : (d : Declarator) → parameters_of (unplaced_declarator d) ≡ unplaced_params (parameters_of d)
-parameters_same (syntax.pointer at d) = parameters_same d
-parameters_same (syntax.array at d size) = parameters_same d
-parameters_same (syntax.function at (syntax.named here x) ps) = refl
-parameters_same (syntax.function at d ps) = parameters_same d
-parameters_same d = refl
+pub declares_same : (d : Declarator) → declares_function (unplaced_declarator d) ≡ declares_function d
+declares_same d = (declarator_same d).0
 
 named_same : (n : Option Ident) → is_named (unplaced_name n) ≡ is_named n
 named_same None = refl
 named_same (Some x) = refl
 
-all_named_same : (ps : Params) → are_named (unplaced_params ps) ≡ are_named ps
-all_named_same no_params = refl
-all_named_same (more_params at s d ps) = ap₂ (λ a b. a && b) (ap is_named (name_same d) ∙ named_same (name_of d)) (all_named_same ps)
-
-count_params_same : (ps : Params) → count_params (unplaced_params ps) ≡ count_params ps
-count_params_same no_params = refl
-count_params_same (more_params at s d ps) = ap suc (count_params_same ps)
+params_same : (ps : Params) → (are_named (unplaced_params ps) ≡ are_named ps) × (count_params (unplaced_params ps) ≡ count_params ps)
+params_same no_params = (refl, refl)
+params_same (more_params at s d ps) = (let h = params_same ps in (ap₂ (λ a b. a && b) (ap is_named (name_same d) ∙ named_same (name_of d)) h.0, ap suc h.1))
 
 parameter_same : (env : Env) (k : ℕ) (n : Option Ident) (t : CType) → with_parameter env k (unplaced_name n) t ≡ with_parameter env k n t
 parameter_same env k None t = refl
@@ -69,14 +61,14 @@ body_items_same (block at is) = refl
 body_items_same s = refl
 
 body_env_same : (env : Env) (d : Declarator) (ts : CTypes) → body_env env (unplaced_declarator d) ts ≡ body_env env d ts
-body_env_same env d ts = ap (λ ps. with_parameters (inside env) 0 ps ts) (parameters_same d) ∙ with_parameters_same (inside env) 0 (parameters_of d) ts
+body_env_same env d ts = ap (λ ps. with_parameters (inside env) 0 ps ts) ((declarator_same d).1) ∙ with_parameters_same (inside env) 0 (parameters_of d) ts
 
 numbers_from : (k : ℕ) (is : BlockItems) → first_numbers k (unplaced_block_items is) ≡ first_numbers k is
 numbers_from k is = ap (λ xs. record { plain = k; added = (past_names (record { plain = k; added = 0 }) xs).plain }) ((block_same is).1)
 
 body_numbers_same : (d : Declarator) (is : BlockItems) → body_numbers (unplaced_declarator d) (unplaced_block_items is) ≡ body_numbers d is
 body_numbers_same d is =
-    ap (λ k. first_numbers k (unplaced_block_items is)) (ap count_params (parameters_same d) ∙ count_params_same (parameters_of d)) ∙ numbers_from (count_params (parameters_of d)) is
+    ap (λ k. first_numbers k (unplaced_block_items is)) (ap count_params ((declarator_same d).1) ∙ (params_same (parameters_of d)).1) ∙ numbers_from (count_params (parameters_of d)) is
 
 abbrev in_body : CType → Around
 in_body t = record { breaks = false; continues = false; returns = t }
@@ -93,7 +85,7 @@ laid_alike env x t ts p =
 
 few_variables_alike : (env : Env) (d : Declarator) (x : Ident) (is : BlockItems) → Alike Met (few_variables env x d is) (few_variables env (unplaced_ident x) (unplaced_declarator d) (unplaced_block_items is))
 few_variables_alike env d x is =
-    subst (λ n. Alike Met (few_variables env x d is) (demand (nat_le n (most_local_cells env.whole.mode)) C13 0 met)) (sym (ap₂ (λ k xs. k + length xs) (ap count_params (parameters_same d) ∙ count_params_same (parameters_of d)) ((block_same is).1)))
+    subst (λ n. Alike Met (few_variables env x d is) (demand (nat_le n (most_local_cells env.whole.mode)) C13 0 met)) (sym (ap₂ (λ k xs. k + length xs) (ap count_params ((declarator_same d).1) ∙ (params_same (parameters_of d)).1) ((block_same is).1)))
     (demand_alike (nat_le (count_params (parameters_of d) + length (names_of_block is)) (most_local_cells env.whole.mode)) C13 x.at 0 met)
 
 pub defined_alike : (env : Env) (b c : Before) → c ≡ b → (here yonder : ℕ) (d : Declarator) (x : Ident) (is : BlockItems) (t : CType) → Alike Function (defined_as env b here d x is t) (defined_as env c yonder (unplaced_declarator d) (unplaced_ident x) (unplaced_block_items is) t)
@@ -101,7 +93,7 @@ defined_alike env b c h here yonder d x is (function t ts) =
     on_alike (λ _. parts_first (body_of env b t d ts is) (laid_body env b here d x is t ts)) (λ _. parts_first (body_of env c t (unplaced_declarator d) ts (unplaced_block_items is)) (laid_body env c yonder (unplaced_declarator d) (unplaced_ident x) (unplaced_block_items is) t ts))
     (few_variables_alike env d x is)
     (λ _ _. parts_first_alike (body_of env b t d ts is) (body_of env c t (unplaced_declarator d) ts (unplaced_block_items is)) {r = laid_body env b here d x is t ts} {s = laid_body env c yonder (unplaced_declarator d) (unplaced_ident x) (unplaced_block_items is) t ts} (both_alike (body_of env b t d ts is) (body_of env c t (unplaced_declarator d) ts (unplaced_block_items is)) (λ _ p. function_laid env x t ts p) (λ _ p. function_laid env (unplaced_ident x) t ts p)
-    (subst (λ w. Alike Met (demand (are_named (parameters_of d)) C3 here met) (demand w C3 yonder met)) (sym (ap are_named (parameters_same d) ∙ all_named_same (parameters_of d))) (demand_alike (are_named (parameters_of d)) C3 here yonder met))
+    (subst (λ w. Alike Met (demand (are_named (parameters_of d)) C3 here met) (demand w C3 yonder met)) (sym (ap are_named ((declarator_same d).1) ∙ (params_same (parameters_of d)).0)) (demand_alike (are_named (parameters_of d)) C3 here yonder met))
     (λ _ _. body_alike env b c h t d ts is) (λ _ p. laid_alike env x t ts p)))
 defined_alike env b c h here yonder d x is t = fault_alike C3 here yonder
 

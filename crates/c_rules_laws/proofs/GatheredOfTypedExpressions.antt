@@ -12,23 +12,24 @@ use Rattle.c_tree.specs.Operands.{promoted}
 use Rattle.c_tree.specs.Operands.{kind_of as kind_of_operator}
 use Rattle.c_rules.specs.Names.{Name}
 use Rattle.c_rules.specs.Types.{is_integer, is_scalar, count}
-use Rattle.c_rules.specs.Scopes.{Env, layout_of}
+use Rattle.c_rules.specs.Scopes.{Env, Meaning, a_static, a_function, unknown, layout_of}
 use Rattle.c_rules.specs.TypedExpression.{Form, a_value, Constant, TypedExpression, tree_of_form, tree_of, is_null, integer_constant}
 use Rattle.c_rules.specs.Constants.{constant_and, constant_or, constant_moved}
-use Rattle.c_rules.specs.Initialisers.{stores_from}
+use Rattle.c_rules.specs.Initialisers.{typed_zero, stores_from}
 use Rattle.c_rules.specs.Blocks.{appended}
 use Rattle.c_rules.specs.Conversions.{Kind, an_integer, a_pointer, neither, kind_of, few_parts, loaded, valued_as, valued, cast_to, has_integer, converted_to, null_of, fits, assigned_as, assigned, as_if_assigned, condition}
+use Rattle.c_rules.specs.PrimaryExpressions.{used, object_number, function_value_number, meant}
 use Rattle.c_rules.specs.PostfixExpressions.{Designator, direct, through, Callee, callee_of_type, callee_through, all_fit, passed, call_of, as_many_as, called, member_of}
 use Rattle.c_rules.specs.UnaryExpressions.{address, indirection, unary_of_value, size_of, cast_of, null_cast}
-use Rattle.c_rules.specs.BinaryExpressions.{shifted, compared_integers, sum, operation, both_scalars, conjunction, disjunction, chosen, choice}
+use Rattle.c_rules.specs.BinaryExpressions.{shifted, compared_integers, sum, operation, chosen, choice}
 use Rattle.c_rules.specs.Assignments.{operator_of_assignment, right_type, assignment_by, one_for, step, trees_of, comma_of}
 use Rattle.c_rules.proofs.NothingMore.{nothing_more}
 use Rattle.c_rules.proofs.Integers.{size_holds}
-use Rattle.c_rules_laws.proofs.Holding.{Holds, holds_map, demand_holds, behind_demand, and_right, either}
+use Rattle.c_rules_laws.proofs.Holding.{Holds, holds_map, demand_holds, behind_demand, after_part, and_right, either, Each}
 use Rattle.c_rules_laws.proofs.MadeTypes.{number_is}
 use Rattle.c_rules_laws.proofs.Operators.{IsMember, a_member, IsAddress, of_place, of_leader, IsLedTo, led, OfOne, leads, promotes, operates, negates, ArePointers, as_given, left_null, right_null, OfTwo, calculates, compares, orders, equals, adds_right, adds_left, takes, differs, OfChoice, integers_chosen, pointers_chosen, voids_chosen, OfUpdate, assigns, updates, moved, member_agrees, address_agrees, indirection_agrees, unary_agrees, operation_agrees, choice_agrees, assignment_agrees, step_agrees, infix_agrees, joins_and, joins_or}
 use Rattle.c_rules_laws.specs.ConstantForm.{IsConst}
-use Rattle.c_rules_laws.proofs.ConstantForms.{converted_const, unary_const, integer_const, decayed_const, member_const, binary_const, and_const, or_const, conditional_const, moved_const, zero_const}
+use Rattle.c_rules_laws.proofs.ConstantForms.{converted_const, unary_const, integer_const, two_const, decayed_const, member_const, binary_const, and_const, or_const, conditional_const, moved_const, zero_const}
 use Rattle.c_syntax.specs.Tree.{Infix}
 use Rattle.c_rules.specs.Expressions.{infix_rule}
 
@@ -62,6 +63,22 @@ module _ {X : Type 0} (gathering : Gathering X) where
   pub lists_gathered : (gs hs : List TypedExpression) (xs ys : List X) → AllGather gathering xs gs → AllGather gathering ys hs → AllGather gathering (xs ++ ys) (gs ++ hs)
   lists_gathered [] hs xs ys h k = subst (λ zs. AllGather gathering (zs ++ ys) hs) (sym h) k
   lists_gathered (g ∷ gs) hs xs ys h k = (h.0, h.1 ++ ys, h.2, lists_gathered gs hs h.1 ys h.3 k, ap (λ zs. zs ++ ys) h.4 ∙ append_assoc h.0 h.1 ys)
+
+  -- where each has none
+  pub all_silent : (gs : List TypedExpression) → Each (Gathers gathering []) gs → AllGather gathering [] gs
+  all_silent [] h = refl
+  all_silent (g ∷ gs) h = ([], [], h.0, all_silent gs h.1, refl)
+
+  pub zero_silent : (t : CType) → Gathers gathering [] (typed_zero t)
+  zero_silent void = (refl, λ _. refl)
+  zero_silent t = (refl, λ _. refl)
+
+  -- names, where those of functions have none
+  pub meant_gathered : ((f : ℕ) → gathering.named f ≡ []) → (env : Env) (at : ℕ) (x : Name) (m : Meaning) → Holds (Gathers gathering []) (meant env at x m)
+  meant_gathered none env at x (a_static seen whole d) = after_part (Gathers gathering []) (used env.context at (object_number env x)) _ (λ _. (refl, λ _. refl))
+  meant_gathered none env at x (a_function t d) = after_part (Gathers gathering []) (function_value_number env at x) _ (λ f. (none f, λ _. refl))
+  meant_gathered none env at x (unknown f fs) = tt
+  meant_gathered none env at x m = (refl, λ _. refl)
 
   pub stores_gathered : (k : ℕ) (gs : List TypedExpression) (xs : List X) → AllGather gathering xs gs → gathered_inits gathering (stores_from k gs) ≡ xs
   stores_gathered k [] xs h = sym h
@@ -198,9 +215,6 @@ module _ {X : Type 0} (gathering : Gathering X) where
     pointers_gathered a b x y (left_null t e n) g h = (null_gathered xs b.ctype a n g, h)
     pointers_gathered a b x y (right_null t e n) g h = (g, null_gathered ys a.ctype b n h)
 
-    two_parts : (a b : TypedExpression) (f : Constant → Constant → Constant) → ((c d : Constant) → IsConst (f c d) → IsConst c × IsConst d) → IsConst (f (integer_constant a) (integer_constant b)) → IsConst a.constant × IsConst b.constant
-    two_parts a b f k h = (let w = k (integer_constant a) (integer_constant b) h in (integer_const (is_integer a.ctype) a.constant w.0, integer_const (is_integer b.ctype) b.constant w.1))
-
     two_gathered : (env : Env) (at : ℕ) (a b g : TypedExpression) → OfTwo env at a b g → Gathers gathering xs a → Gathers gathering ys b → Gathers gathering (xs ++ ys) g
     two_gathered env at a b g (calculates o i j f s t) h k = calculated_gathered o i j a b h k
     two_gathered env at a b g (compares o i f p s t) h k = compared_gathered o i a b h k
@@ -210,8 +224,8 @@ module _ {X : Type 0} (gathering : Gathering X) where
     two_gathered env at a b g (adds_left t e i c) h k = both_gathered _ a.constant b.constant (tree_of a) (tree_of b) (turned b.constant a.constant _) h k
     two_gathered env at a b g (takes t e i c) h k = both_gathered _ a.constant b.constant (tree_of a) (tree_of b) (moved_const a.constant _ b.constant) h k
     two_gathered env at a b g (differs t e s c) h k = plain_gathered (tree_of a) (tree_of b) h.0 k.0
-    two_gathered env at a b g (joins_and s) h k = both_gathered _ a.constant b.constant (tree_of a) (tree_of b) (two_parts a b constant_and and_const) h k
-    two_gathered env at a b g (joins_or s) h k = both_gathered _ a.constant b.constant (tree_of a) (tree_of b) (two_parts a b constant_or or_const) h k
+    two_gathered env at a b g (joins_and s) h k = both_gathered _ a.constant b.constant (tree_of a) (tree_of b) (two_const a b constant_and and_const) h k
+    two_gathered env at a b g (joins_or s) h k = both_gathered _ a.constant b.constant (tree_of a) (tree_of b) (two_const a b constant_or or_const) h k
 
     pub operation_gathered : (env : Env) (at : ℕ) (o : BinOp) (a b : TypedExpression) → Gathers gathering xs a → Gathers gathering ys b → Holds (Gathers gathering (xs ++ ys)) (operation env at o a b)
     operation_gathered env at o a b h k = holds_map (OfTwo env at a b) (Gathers gathering (xs ++ ys)) (λ g x. two_gathered env at a b g x h k) (operation env at o a b) (operation_agrees env at at a b o).has
@@ -221,12 +235,6 @@ module _ {X : Type 0} (gathering : Gathering X) where
 
     pub sum_gathered : (env : Env) (at : ℕ) (a b : TypedExpression) → Gathers gathering xs a → Gathers gathering ys b → Holds (Gathers gathering (xs ++ ys)) (sum env at a b)
     sum_gathered env at a b g h = operation_gathered env at op.Add a b g h
-
-    pub conjunction_gathered : (at : ℕ) (a b : TypedExpression) → Gathers gathering xs a → Gathers gathering ys b → Holds (Gathers gathering (xs ++ ys)) (conjunction at a b)
-    conjunction_gathered at a b g h = demand_holds (Gathers gathering (xs ++ ys)) (both_scalars a b) 3 at _ (λ _. both_gathered _ a.constant b.constant (tree_of a) (tree_of b) (two_parts a b constant_and and_const) g h)
-
-    pub disjunction_gathered : (at : ℕ) (a b : TypedExpression) → Gathers gathering xs a → Gathers gathering ys b → Holds (Gathers gathering (xs ++ ys)) (disjunction at a b)
-    disjunction_gathered at a b g h = demand_holds (Gathers gathering (xs ++ ys)) (both_scalars a b) 3 at _ (λ _. both_gathered _ a.constant b.constant (tree_of a) (tree_of b) (two_parts a b constant_or or_const) g h)
 
     update_gathered : (env : Env) (at : ℕ) (o : BinOp) (a b g : TypedExpression) → OfUpdate env at o a b g → Gathers gathering xs a → Gathers gathering ys b → Gathers gathering (xs ++ ys) g
     update_gathered env at o a b g (assigns f) h k = plain_gathered (tree_of a) (tree_of (assigned a.ctype b)) h.0 (assigned_gathered ys a.ctype b k).0

@@ -10,6 +10,8 @@ use Rattle.c_rules.specs.Checked.{Checked, fine, on, demand, met, Met}
 use Rattle.c_rules.specs.Codes.{C6, C13, C14}
 use Rattle.c_rules.specs.Limits.{most_cells}
 use Rattle.c_rules.specs.Scopes.{Env, Before, layout_of}
+use Rattle.c_rules.specs.PlacesOfCalls.{places_of_init, places_of_inits, places_of_maybe_init}
+use Rattle.c_rules.specs.Tags.{tags_of_init, tags_of_inits, tags_of_maybe_init}
 use Rattle.c_rules.specs.TypedExpression.{TypedExpression, Constant, known}
 use Rattle.c_rules.specs.Conversions.{as_if_assigned}
 use Rattle.c_rules.specs.Declarators.{place_or}
@@ -18,7 +20,7 @@ use Rattle.c_rules.specs.Initialisers.{Slots, copies, each, slots, capacity, tak
 use Rattle.c_rules.specs.Objects.{Object, sized_by_one, sized_by_init, sized_by, with_size, of_known_size, object_of, object_declared}
 use Rattle.c_rules_laws.proofs.Alike.{Alike, alike, on_alike, gives_alike, joined_alike, demand_alike, fault_alike}
 use Rattle.c_rules_laws.proofs.Operators.{assigned_alike, complete_alike, few_cells_alike}
-use Rattle.c_rules_laws.proofs.Expressions.{value_alike, calls_same, strings_same, past_same, type_declared_alike}
+use Rattle.c_rules_laws.proofs.Expressions.{joins, long_both, value_alike, calls_same, strings_same, expr_tags, expr_counted, past_same, type_declared_alike}
 
 -- ## Counts
 
@@ -31,17 +33,20 @@ count_same no_inits = refl
 count_same (more_inits i is) = ap suc (count_same is)
 
 mutual
-  pub init_calls_same : (i : Init) → calls_of_init (unplaced_init i) ≡ calls_of_init i
-  init_calls_same (one at e) = calls_same e
-  init_calls_same (list at is) = inits_calls_same is
+  init_counts : (i : Init) → (calls_of_init (unplaced_init i) ≡ calls_of_init i) × (tags_of_init (unplaced_init i) ≡ tags_of_init i) × (length (places_of_init i) ≡ calls_of_init i)
+  init_counts (one at e) = (calls_same e, expr_tags e, expr_counted e)
+  init_counts (list at is) = inits_counts is
 
-  pub inits_calls_same : (is : Inits) → calls_of_inits (unplaced_inits is) ≡ calls_of_inits is
-  inits_calls_same no_inits = refl
-  inits_calls_same (more_inits i is) = ap₂ (λ m n. m + n) (init_calls_same i) (inits_calls_same is)
+  inits_counts : (is : Inits) → (calls_of_inits (unplaced_inits is) ≡ calls_of_inits is) × (tags_of_inits (unplaced_inits is) ≡ tags_of_inits is) × (length (places_of_inits is) ≡ calls_of_inits is)
+  inits_counts no_inits = (refl, refl, refl)
+  inits_counts (more_inits i is) = (let h = init_counts i in let g = inits_counts is in (ap₂ (λ m n. m + n) h.0 g.0, joins h.1 g.1, long_both (places_of_init i) (places_of_inits is) h.2 g.2))
+
+pub maybe_init_counts : (m : MaybeInit) → (calls_of_maybe_init (unplaced_maybe_init m) ≡ calls_of_maybe_init m) × (tags_of_maybe_init (unplaced_maybe_init m) ≡ tags_of_maybe_init m) × (length (places_of_maybe_init m) ≡ calls_of_maybe_init m)
+maybe_init_counts no_init = (refl, refl, refl)
+maybe_init_counts (an_init i) = init_counts i
 
 pub maybe_init_calls_same : (m : MaybeInit) → calls_of_maybe_init (unplaced_maybe_init m) ≡ calls_of_maybe_init m
-maybe_init_calls_same no_init = refl
-maybe_init_calls_same (an_init i) = init_calls_same i
+maybe_init_calls_same m = (maybe_init_counts m).0
 
 held_by_one_same : (t : CType) (e : Expr) → held_by_one t (unplaced e) ≡ held_by_one t e
 held_by_one_same t e =
@@ -63,7 +68,7 @@ held_by_same env t no_init = refl
 held_by_same env t (an_init i) = held_same env t i
 
 after_init_same : (env : Env) (b c : Before) (t : CType) (i : Init) → c ≡ b → after_init env c t (unplaced_init i) ≡ after_init env b t i
-after_init_same env b c t i h = past_same b c (calls_of_init (unplaced_init i)) (calls_of_init i) (held env t (unplaced_init i)) (held env t i) h (init_calls_same i) (held_same env t i)
+after_init_same env b c t i h = past_same b c (calls_of_init (unplaced_init i)) (calls_of_init i) (held env t (unplaced_init i)) (held env t i) h ((init_counts i).0) (held_same env t i)
 
 -- ## Cells
 

@@ -31,9 +31,8 @@ use Rattle.c_rules_laws.proofs.Operators.{complete_alike}
 use Rattle.c_rules_laws.proofs.Declared.{unplaced_name, name_same, constant_alike, new_alike, meaning_same}
 use Rattle.c_rules_laws.proofs.Expressions.{type_declared_alike, folded_alike, past_same}
 use Rattle.c_rules_laws.proofs.Initialisers.{with_size_alike, declared_object_alike, static_init_alike, held_by_same, maybe_init_calls_same}
-use Rattle.c_rules_laws.proofs.Counted.{block_same}
+use Rattle.c_rules_laws.proofs.Counted.{block_same, item_tags}
 use Rattle.c_rules_laws.proofs.Functions.{declares_same, body_items_same, defined_alike, held_same, function_declared_alike, behind_function_same}
-use Rattle.c_rules_laws.proofs.Tags.{item_tags}
 
 -- ## Structs
 

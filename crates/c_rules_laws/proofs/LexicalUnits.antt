@@ -10,15 +10,18 @@ use Rattle.c_lexer.specs.Kinds.{Spells, IsKind}
 use Rattle.c_lexer.specs.Literals.{IsElement, plain, HasElements, none, more}
 use Rattle.c_lexer.specs.TokenSpelling.{SpellsFrom, nothing, white, token, SpellsTokens}
 use Rattle.c_lexer.proofs.KindsLemmas.{kind_of_spelled}
-use Rattle.c_syntax.specs.Tree.{Ident, Spec, Storage, Expr, Exprs, Maybe, TypeName, Declarator, Params, Init, Inits, MaybeInit, Parts, Decl, First, Labels, Stmt, BlockItems, Stmts, Groups, Declarators, Members, Enumerators, Tag, Item, Items}
+use Rattle.c_syntax.specs.Tree.{Ident, Spec, Expr, Exprs, Maybe, Declarator, Init, Inits, MaybeInit, Parts, Decl, First, Stmt, BlockItems, Stmts, Groups, Declarators, Members, Item, Items}
 use Rattle.c_syntax.specs.Tree as syntax
-use Rattle.c_syntax.specs.Specifiers.{Names, ReadsStorage, no_storage_stands, Consts, no_const, a_const, ReadsSpec}
+use Rattle.c_syntax.specs.Specifiers.{Names, ReadsSpec}
 use Rattle.c_syntax.specs.Grammar as grammar
-use Rattle.c_syntax.specs.Grammar.{Level, ReadsStrings, Reads, ReadsList, Suffixes, Chain, ReadsSize, ReadsType, Declares, ReadsCore, Lengthens, ReadsParams, ReadsEach}
+use Rattle.c_syntax.specs.Grammar.{Level, ReadsStrings, Reads, ReadsList, Suffixes, Chain, Declares, ReadsCore, Lengthens}
 use Rattle.c_syntax.specs.Statements as stmts
-use Rattle.c_syntax.specs.Statements.{ReadsInit, ReadsInits, ReadsMaybeInit, ReadsParts, ReadsDecl, ReadsMaybe, ReadsFirst, ReadsLabels, ReadsStmt, ReadsBlockItems, ReadsStmts, ReadsGroups, ReadsDeclarators, ReadsMembers, ReadsEnumeratorValue, ReadsEnumerators, ReadsTag, ReadsItem, ReadsItems}
-use Rattle.c_syntax_printing.proofs.FrontLemmas.{front_of_each}
-use Rattle.c_syntax_printing.proofs.FrameSpecifiers.{spec_on}
+use Rattle.c_syntax.specs.Statements.{ReadsInit, ReadsInits, ReadsMaybeInit, ReadsParts, ReadsDecl, ReadsMaybe, ReadsFirst, ReadsStmt, ReadsBlockItems, ReadsStmts, ReadsGroups, ReadsDeclarators, ReadsMembers, ReadsItem, ReadsItems}
+use Rattle.c_syntax_printing.specs.Twins.{On}
+use Rattle.c_syntax_printing.proofs.FrontLemmas.{front_of_all, front_of_each}
+use Rattle.c_syntax_printing.proofs.FrameSpecifiers.{consts_on, storage_on, spec_on}
+use Rattle.c_syntax_printing.proofs.FrameGrammar.{size_on, type_on, params_on}
+use Rattle.c_syntax_printing.proofs.FrameStatements.{labels_on, members_on, enumerators_on, tag_on}
 use Rattle.c_rules.specs.Declarators.{name_of}
 use Rattle.c_rules_laws.specs.Lexical.{IsLexical, AreLexical, IsMaybeLexical, IsInitLexical, AreInitsLexical, IsMaybeInitLexical, ArePartsLexical, IsDeclLexical, IsFirstLexical, IsStmtLexical, AreItemsLexical, AreStmtsLexical, AreGroupsLexical, AreSomeMembers, IsNamed, IsItemLexical, IsUnitLexical}
 use Rattle.c_rules_laws.proofs.Holding.{Each}
@@ -82,13 +85,9 @@ good_rest (t ∷ w) j h = good_rest w j (next h)
 spec_good : {x : Spec} {i j : List Token} → ReadsSpec x i j → AreGood i → AreGood j
 spec_good {j = j} r h = (let f = front_of_each (spec_on r) in good_rest f.front j (subst AreGood f.is h))
 
-storage_good : {x : Storage} {i j : List Token} → ReadsStorage x i j → AreGood i → AreGood j
-storage_good no_storage_stands h = h
-storage_good x h = next h
-
-consts_good : {i j : List Token} → Consts i j → AreGood i → AreGood j
-consts_good no_const h = h
-consts_good (a_const k c) h = consts_good c (next h)
+-- behind a phrase that is read whatever follows it
+behind : {R : List Token → List Token → Type 0} {i j : List Token} → ((k : List Token) → On R i j k) → AreGood i → AreGood j
+behind {j = j} r h = (let f = front_of_all r in good_rest f.front j (subst AreGood f.is h))
 
 name_good : {x : Ident} {t : Token} {i : List Token} → Names x t → AreGood (t ∷ i) → IsName x.name
 name_good n h = subst IsKind n.name.kind h.kinds.0
@@ -119,9 +118,9 @@ mutual
   reads_good (grammar.no_prefix r) h = reads_good r h
   reads_good (grammar.a_prefix k r) h = reads_good r (next h)
   reads_good (grammar.a_unary k u r) h = reads_good r (next h)
-  reads_good (grammar.a_sizeof_type k o r c) h = (tt, next (type_good r (next (next h))))
+  reads_good (grammar.a_sizeof_type k o r c) h = (tt, next (behind (type_on r) (next (next h))))
   reads_good (grammar.no_cast r) h = reads_good r h
-  reads_good (grammar.a_cast k r u x) h = reads_good x (next (type_good r (next h)))
+  reads_good (grammar.a_cast k r u x) h = reads_good x (next (behind (type_on r) (next h)))
   reads_good (grammar.no_chain r) h = reads_good r h
   reads_good (grammar.a_chain p r c) h = (let n = reads_good r h in chain_good c n.0 n.1)
   reads_good (grammar.no_choice r) h = reads_good r h
@@ -147,15 +146,8 @@ mutual
   chain_good grammar.no_operator l h = (l, h)
   chain_good (grammar.an_operator o k r x) l h = (let y = reads_good r (next h) in chain_good x (l, y.0) y.1)
 
-  size_good : {d : ℕ} {m : Maybe} {i j : List Token} → ReadsSize d m i j → AreGood i → AreGood j
-  size_good grammar.no_size h = h
-  size_good (grammar.a_size r) h = (reads_good r h).1
-
-  type_good : {d : ℕ} {n : TypeName} {i j : List Token} → ReadsType d n i j → AreGood i → AreGood j
-  type_good (grammar.a_type p r x n) h = (declares_good x (spec_good r h)).1
-
   pub declares_good : {d : ℕ} {e : Declarator} {i j : List Token} → Declares d e i j → AreGood i → IsNamed (name_of e) × AreGood j
-  declares_good (grammar.a_pointer k c x) h = declares_good x (consts_good c (next h))
+  declares_good (grammar.a_pointer k c x) h = declares_good x (behind (consts_on c) (next h))
   declares_good (grammar.a_direct p c x) h = (let n = core_good c h in lengthens_good x n.0 n.1)
 
   core_good : {d : ℕ} {e : Declarator} {i j : List Token} → ReadsCore d e i j → AreGood i → IsNamed (name_of e) × AreGood j
@@ -165,16 +157,8 @@ mutual
 
   lengthens_good : {d at : ℕ} {a e : Declarator} {i j : List Token} → Lengthens d at a e i j → IsNamed (name_of a) → AreGood i → IsNamed (name_of e) × AreGood j
   lengthens_good grammar.no_more l h = (l, h)
-  lengthens_good (grammar.an_array k r u x) l h = lengthens_good x l (next (size_good r (next h)))
-  lengthens_good (grammar.a_function k r u x) l h = lengthens_good x l (next (params_good r (next h)))
-
-  params_good : {d : ℕ} {ps : Params} {i j : List Token} → ReadsParams d ps i j → AreGood i → AreGood j
-  params_good (grammar.are_none r) h = spec_good r h
-  params_good (grammar.are_some r a) h = each_good r h
-
-  each_good : {d : ℕ} {ps : Params} {i j : List Token} → ReadsEach d ps i j → AreGood i → AreGood j
-  each_good (grammar.last_param p r x) h = (declares_good x (spec_good r h)).1
-  each_good (grammar.next_param p r x k rest) h = each_good rest (next (declares_good x (spec_good r h)).1)
+  lengthens_good (grammar.an_array k r u x) l h = lengthens_good x l (next (behind (size_on r) (next h)))
+  lengthens_good (grammar.a_function k r u x) l h = lengthens_good x l (next (behind (params_on r) (next h)))
 
 -- ## Initialisers, declarations and statements
 
@@ -197,7 +181,7 @@ parts_good (stmts.last_part x n r) h = (let y = maybe_init_good r (declares_good
 parts_good (stmts.next_part x n r k rest) h = (let y = maybe_init_good r (declares_good x h).1 in let z = parts_good rest (next y.1) in ((y.0, z.0), z.1))
 
 decl_good : {d : ℕ} {x : Decl} {i j : List Token} → ReadsDecl d x i j → AreGood i → IsDeclLexical x × AreGood j
-decl_good (stmts.a_declaration p c r x k) h = (let y = parts_good x (spec_good r (storage_good c h)) in (y.0, next y.1))
+decl_good (stmts.a_declaration p c r x k) h = (let y = parts_good x (spec_good r (behind (storage_on c) h)) in (y.0, next y.1))
 
 maybe_good : {d : ℕ} {m : Maybe} {i j : List Token} → ReadsMaybe d m i j → AreGood i → IsMaybeLexical m × AreGood j
 maybe_good stmts.no_expression_stands h = (tt, h)
@@ -207,12 +191,6 @@ first_good : {d : ℕ} {x : First} {i j : List Token} → ReadsFirst d x i j →
 first_good (stmts.first_nothing k) h = (tt, next h)
 first_good (stmts.first_expression r k) h = (let y = reads_good r h in (y.0, next y.1))
 first_good (stmts.first_declaration r p) h = decl_good r h
-
-labels_good : {d : ℕ} {ls : Labels} {i j : List Token} → ReadsLabels d ls i j → AreGood i → AreGood j
-labels_good (stmts.last_case k r u) h = next (reads_good r (next h)).1
-labels_good (stmts.last_default k u) h = next (next h)
-labels_good (stmts.next_case k r u rest) h = labels_good rest (next (reads_good r (next h)).1)
-labels_good (stmts.next_default k u rest) h = labels_good rest (next (next h))
 
 mutual
   stmt_good : {d : ℕ} {x : Stmt} {i j : List Token} → ReadsStmt d x i j → AreGood i → IsStmtLexical x × AreGood j
@@ -239,41 +217,25 @@ mutual
 
   groups_good : {d : ℕ} {x : Groups} {i j : List Token} → ReadsGroups d x i j → AreGood i → AreGroupsLexical x × AreGood j
   groups_good stmts.no_group h = (tt, h)
-  groups_good (stmts.a_group ls r rest) h = (let n = stmts_good r (labels_good ls h) in let m = groups_good rest n.1 in ((n.0, m.0), m.1))
+  groups_good (stmts.a_group ls r rest) h = (let n = stmts_good r (behind (labels_on ls) h) in let m = groups_good rest n.1 in ((n.0, m.0), m.1))
 
 -- ## Units
-
-declarators_good : {d : ℕ} {x : Declarators} {i j : List Token} → ReadsDeclarators d x i j → AreGood i → AreGood j
-declarators_good (stmts.last_declarator x n) h = (declares_good x h).1
-declarators_good (stmts.next_declarator x n k rest) h = declarators_good rest (next (declares_good x h).1)
 
 some_members : {d : ℕ} {x : Declarators} {i j : List Token} (at : ℕ) (y : Spec) (ms : Members) → ReadsDeclarators d x i j → AreSomeMembers (syntax.more_members at y x ms)
 some_members at y ms (stmts.last_declarator x n) = tt
 some_members at y ms (stmts.next_declarator x n k rest) = tt
 
-members_good : {d : ℕ} {x : Members} {i j : List Token} → ReadsMembers d x i j → AreGood i → AreSomeMembers x × AreGood j
-members_good (stmts.last_member {at = a0} {s = s0} p r x k) h = (some_members a0 s0 syntax.no_members x, next (declarators_good x (spec_good r h)))
-members_good (stmts.next_member {at = a0} {s = s0} {rest = m0} p r x k rest) h = (some_members a0 s0 m0 x, (members_good rest (next (declarators_good x (spec_good r h)))).1)
-
-value_good : {d : ℕ} {m : Maybe} {i j : List Token} → ReadsEnumeratorValue d m i j → AreGood i → AreGood j
-value_good stmts.no_enumerator_value h = h
-value_good (stmts.an_enumerator_value k r) h = (reads_good r (next h)).1
-
-enumerators_good : {d : ℕ} {x : Enumerators} {i j : List Token} → ReadsEnumerators d x i j → AreGood i → AreGood j
-enumerators_good (stmts.last_enumerator n r) h = value_good r (next h)
-enumerators_good (stmts.next_enumerator n r k rest) h = enumerators_good rest (next (value_good r (next h)))
-
-tag_good : {x : Tag} {i j : List Token} → ReadsTag x i j → AreGood i → AreGood j
-tag_good stmts.no_name h = h
-tag_good (stmts.a_tag n) h = next h
+members_some : {d : ℕ} {x : Members} {i j : List Token} → ReadsMembers d x i j → AreSomeMembers x
+members_some (stmts.last_member {at = a0} {s = s0} p r x k) = some_members a0 s0 syntax.no_members x
+members_some (stmts.next_member {at = a0} {s = s0} {rest = m0} p r x k rest) = some_members a0 s0 m0 x
 
 item_good : {d : ℕ} {x : Item} {i j : List Token} → ReadsItem d x i j → AreGood i → IsItemLexical x × AreGood j
-item_good (stmts.a_struct k n l r a u) h = (let m = members_good r (next (next (next h))) in (m.0, next (next m.1)))
-item_good (stmts.an_enum k g l r a u) h = (tt, next (next (enumerators_good r (next (tag_good g (next h))))))
-item_good (stmts.an_enum_with_comma k g l r c a u) h = (tt, next (next (next (enumerators_good r (next (tag_good g (next h)))))))
+item_good (stmts.a_struct k n l r a u) h = (members_some r, next (next (behind (members_on r) (next (next (next h))))))
+item_good (stmts.an_enum k g l r a u) h = (tt, next (next (behind (enumerators_on r) (next (behind (tag_on g) (next h))))))
+item_good (stmts.an_enum_with_comma k g l r c a u) h = (tt, next (next (next (behind (enumerators_on r) (next (behind (tag_on g) (next h)))))))
 item_good (stmts.a_tag_alone k n u) h = (tt, next (next (next h)))
 item_good (stmts.an_item_declaration p r) h = decl_good r h
-item_good (stmts.a_definition p c r x n k items u) h = (let y = declares_good x (spec_good r (storage_good c h)) in let z = items_good items (next y.1) in ((y.0, z.0), next z.1))
+item_good (stmts.a_definition p c r x n k items u) h = (let y = declares_good x (spec_good r (behind (storage_on c) h)) in let z = items_good items (next y.1) in ((y.0, z.0), next z.1))
 
 unit_good : {d : ℕ} {x : Items} {i j : List Token} → ReadsItems d x i j → AreGood i → IsUnitLexical x × AreGood j
 unit_good (stmts.last_item r) h = (let n = item_good r h in ((n.0, tt), n.1))

@@ -39,10 +39,8 @@ pub mod SoundStructs
 pub mod Spans
 pub mod Statements
 pub mod StaticStrings
-pub mod Tags
 pub mod Texts
 pub mod TypesOfExpressions
-pub mod TypesOfTypedExpressions
 pub mod UnitFunctions
 pub mod UnitItems
 pub mod UnitScopes

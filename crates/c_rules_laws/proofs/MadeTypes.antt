@@ -1,17 +1,17 @@
 -- Tests of types, and types as declarators make them.
-use Rattle.std.proofs.Common.{◌≡◌, ℕ, ◌<◌, true, List, Option, Some, slice_get, unwrap_or, nat_lt, nat_eq, refl, ap, ap₂, ◌∙◌, arith}
+use Rattle.std.proofs.Common.{◌≡◌, ℕ, ◌≤◌, ◌<◌, true, List, map, Option, Some, None, slice_get, unwrap_or, nat_lt, nat_eq, refl, ap, ap₂, ◌∙◌, arith}
 use Rattle.std.specs.Prelude.{option_map}
 use Rattle.std.proofs.lemmas.Bool.Decides.{Decides-ltb, Decides-eqb}
 use Rattle.std.proofs.lemmas.Option.{slice_get-map}
 use Rattle.c_tree.specs.declared.value.IntType.{IntType}
 use Rattle.c_tree.specs.declared.value.IntType.TheVariants.{Char, Uchar, Int, Uint}
 use Rattle.c_tree.specs.Tree.{CType, void, integer, pointer, array, struct, function, CTypes, no_types, more_types}
-use Rattle.c_tree.specs.Layout.{Structs}
+use Rattle.c_tree.specs.Layout.{Structs, cells}
 use Rattle.c_tree.specs.Operands.{IsScalar, IsResult, IsComplete}
 use Rattle.c_rules.specs.Types.{is_void, same_integer, same_type, same_types, is_scalar, is_result}
-use Rattle.c_rules.specs.Scopes.{Env, Struct, incomplete, defined_struct, types_of_struct, layout_of}
+use Rattle.c_rules.specs.Scopes.{Env, Struct, incomplete, defined_struct, Member, struct_of, types_of_struct, type_of_member, layout_of}
 use Rattle.c_rules.specs.Conversions.{is_defined, complete}
-use Rattle.c_rules_laws.specs.MadeTypes.{NotArray, Made, AllMade, FewCells}
+use Rattle.c_rules_laws.specs.MadeTypes.{NotArray, Made, AllMade, FewCells, IsSized}
 use Rattle.c_rules_laws.proofs.Holding.{Holds, demand_holds, and_left, and_right}
 
 -- ## Tests of types
@@ -60,6 +60,10 @@ pub scalar_not_array : (t : CType) → IsScalar t → NotArray t
 scalar_not_array (array t n) h = absurd h
 scalar_not_array t h = tt
 
+pub scalar_result : (t : CType) → IsScalar t → IsResult t
+scalar_result void h = tt
+scalar_result t h = h
+
 pub void_is : (t : CType) → is_void t ≡ true → t ≡ void
 void_is void h = refl
 void_is t h = absurd (cc)
@@ -68,7 +72,21 @@ pub few_unless_array : (structs : Structs) (t : CType) → NotArray t → FewCel
 few_unless_array structs (array t n) h = absurd h
 few_unless_array structs t h = tt
 
+few_from : (structs : Structs) (t : CType) → cells structs t ≤ 65536 → FewCells structs t
+few_from structs (array t n) h = omega (arith, h)
+few_from structs t h = tt
+
+pub sized_few : (structs : Structs) (t : CType) → Made structs t → cells structs t ≤ 65536 → IsSized structs t
+sized_few structs t m h = record { made = m; few = few_from structs t h }
+
 -- ## Types of known size
+
+pub defined_at : (env : Env) (s : ℕ) (ms : List Member) → struct_of env s ≡ defined_struct ms → slice_get (layout_of env) s ≡ Some (Some (map type_of_member ms))
+defined_at env s ms e = slice_get-map types_of_struct env.structs s ∙ by_entry (slice_get env.structs s) e
+  where
+    by_entry : (o : Option Struct) → unwrap_or o incomplete ≡ defined_struct ms → option_map types_of_struct o ≡ Some (Some (map type_of_member ms))
+    by_entry None f = absurd (let g : incomplete ≡ defined_struct ms = f in cc)
+    by_entry (Some x) f = ap (λ y. Some (types_of_struct y)) f
 
 struct_known : (env : Env) (at s : ℕ) (o : Option Struct) → slice_get env.structs s ≡ o → Holds (λ _. IsComplete (layout_of env) (struct s)) (is_defined at (unwrap_or o incomplete))
 struct_known env at s (Some (defined_struct ms)) e = (_, slice_get-map types_of_struct env.structs s ∙ ap (option_map types_of_struct) e)

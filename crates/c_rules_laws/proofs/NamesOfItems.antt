@@ -21,7 +21,8 @@ use Rattle.c_rules.specs.Units.{functions_of_item, functions_of, objects_of_part
 use Rattle.c_rules_laws.specs.Lexical.{IsUnitLexical, IsNamed, IsMaybeInitLexical, ArePartsLexical, IsStmtLexical, IsItemLexical}
 use Rattle.c_rules_laws.proofs.Holding.{held, first_fine, and_right, on_fine, fine_same}
 use Rattle.c_rules_laws.proofs.FileScopes.{IsFileRight}
-use Rattle.c_rules_laws.proofs.FileItems.{IsFunctionDeclared, function_declared_right, form_step, tags_step, Step, step_self, step_on, IsObjectNamed, object_named, part_step, definition_step, object_declared_same, here_is, IsFunctionNamed, function_meant}
+use Rattle.c_rules.proofs.ModeItems.{same_object}
+use Rattle.c_rules_laws.proofs.FileItems.{IsFunctionDeclared, function_declared_right, form_step, tags_step, Step, step_self, step_on, IsObjectNamed, object_named, part_step, definition_step, here_is, IsFunctionNamed, function_meant}
 use Rattle.c_rules_laws.proofs.DistinctNames.{itself, among_first, new_kept, new_there, new_few}
 use Rattle.c_rules_laws.proofs.DefinedNames.{IsDefined, Defines, defines_both, nothing_both, nothing_same, newest_or_older, IsNoFunction, static_no_function, enumerator_no_function, unknown_no_function, nothing_named, nothing_new}
 use Rattle.c_rules.specs.Tags.{tags_of_enumerators}
@@ -162,12 +163,9 @@ gives_step (an_object x m o gs w l n f s) = s
 gives_step (a_definition at s d body x m u f w n l k c e h g t) = t
 gives_step {env} {inner} (one_and_more {middle = c} h k) = step_on env c inner (gives_step h) (gives_step k)
 
-pub output_same : (p q : Output) → fine p ≡ fine q → p ≡ q
-output_same p q e = cc
-
 -- a declaration that gives nothing
 nothing_given : (env inner : Env) (b : Before) (q : Output) → IsFileRight env → Step env inner → Defines env inner [] → fine no_output ≡ fine q → Gives env b inner b q [] []
-nothing_given env inner b q w s d e = subst (λ q. Gives env b inner b q [] []) (output_same no_output q e) (declares (starts w) s d)
+nothing_given env inner b q w s d e = subst (λ q. Gives env b inner b q [] []) (fine_same no_output q e) (declares (starts w) s d)
 
 part_gives : (env : Env) → IsFileRight env → (b : Before) (at : ℕ) (class : Storage) (s : Spec) (d : Declarator) (m : MaybeInit) (o : Option Ident) (q : Output) → IsMaybeInitLexical m → named_part env b at class s d m o ≡ fine q
     → Gives env b (behind_named_part env b at class s d m o) (after_declared env b at s d m (not (declares_function d) && defines class m) o) q [] (if not (declares_function d) && defines class m then name_or_empty o ∷ [] else [])
@@ -184,11 +182,11 @@ part_gives env w b at class s d m (Some x) q l e = by_kind (declares_function d)
         let o : Object = i.0 in
         let inner : Env = within_global env true x (fine o) in
         let named : IsObjectNamed env (defines class m) b x o = held (IsObjectNamed env (defines class m) b x) r o (object_named env (defines class m) b at s d x m) i.1 in
-        let declared : object_declared env at s d x m ≡ fine o = object_declared_same env (defines class m) b at s d x m o i.1 in
+        let declared : object_declared env at s d x m ≡ fine o = same_object env (defines class m) b at s d x m o i.1 in
         let j = on_fine (initialised_static inner (after_object inner b o.whole) o.whole m) (λ gs. fine (static_of o gs)) q (subst (λ y. definition_of (within_global env true x y) b m o ≡ fine q) i.1 i.2) in
         subst (λ y. Gives env b (behind_global env true x r) (after_global env b m y) q [] (x.name ∷ [])) (sym declared)
         (subst (λ y. Gives env b (behind_global env true x y) (after_global env b m (fine o)) q [] (x.name ∷ [])) (sym i.1)
-        (subst (λ p. Gives env b (behind_global env true x (fine o)) (after_global env b m (fine o)) p [] (x.name ∷ [])) (output_same (static_of o j.0) q j.2)
+        (subst (λ p. Gives env b (behind_global env true x (fine o)) (after_global env b m (fine o)) p [] (x.name ∷ [])) (fine_same (static_of o j.0) q j.2)
         (an_object x m o j.0 w l (subst (λ k. IsObjectNamed env k b x o) n named) j.1 (subst (λ y. Step env (behind_global env true x y)) i.1 z))))
 
     by_kind : (f k : Bool) → declares_function d ≡ f → defines class m ≡ k → declared_part env b at class s d m f x ≡ fine q → Step env (behind_declared env b at class s d m f x) → Gives env b (behind_declared env b at class s d m f x) (after_declared env b at s d m (not f && k) (Some x)) q [] (if not f && k then x.name ∷ [] else [])
@@ -212,7 +210,7 @@ parts_give (more_parts d m ps) env w b at class s q l e =
     let i = first_fine (named_part env b at class s d m (name_of d)) (file_parts inner after at class s ps) (λ p q. fine (with_output p q)) q e in
     let h = part_gives env w b at class s d m (name_of d) i.0 l.0 i.2 in
     subst (λ ys. Gives env b (behind_file_parts inner after at class s ps) (after_file_parts inner after at class s ps) q [] ys) (names_joined (not (declares_function d) && defines class m) (name_or_empty (name_of d)) (objects_of_parts class ps))
-    (subst (λ p. Gives env b (behind_file_parts inner after at class s ps) (after_file_parts inner after at class s ps) p [] ((if not (declares_function d) && defines class m then name_or_empty (name_of d) ∷ [] else []) ++ objects_of_parts class ps)) (output_same (with_output i.0 i.1) q i.4)
+    (subst (λ p. Gives env b (behind_file_parts inner after at class s ps) (after_file_parts inner after at class s ps) p [] ((if not (declares_function d) && defines class m then name_or_empty (name_of d) ∷ [] else []) ++ objects_of_parts class ps)) (fine_same (with_output i.0 i.1) q i.4)
     (one_and_more h (parts_give ps inner (gives_step h).0 after at class s i.1 l.1 i.3)))
 
 definition_gives : (env : Env) → IsFileRight env → (b : Before) (at : ℕ) (s : Spec) (d : Declarator) (body : Stmt) (o : Option Ident) (q : Output) (k : Bool) → declares_function d ≡ k → IsNamed o → IsStmtLexical body → function_named env b at s d body k o ≡ fine q
@@ -226,7 +224,7 @@ definition_gives env w b at s d body (Some x) q true k n l e =
     let same : j.0 ≡ h.0 = fine_same j.0 h.0 (sym j.1 ∙ h.1) in
     let named : IsFunctionNamed env true x h.0 i.0 = held (IsFunctionNamed env true x h.0) (function_meaning env true x h.0) i.0 (function_meant env true x h.0) (subst (λ t. function_meaning env true x t ≡ fine i.0) same j.2) in
     subst (λ r. Gives env b inner (past b (calls_of_block is) (held_by_typed inner d is r)) q (x.name ∷ []) []) (sym h.1)
-    (subst (λ p. Gives env b inner (past b (calls_of_block is) (held_by_type inner d is h.0)) p (x.name ∷ []) []) (output_same (output_of_function i.1) q i.4)
+    (subst (λ p. Gives env b inner (past b (calls_of_block is) (held_by_type inner d is h.0)) p (x.name ∷ []) []) (fine_same (output_of_function i.1) q i.4)
     (a_definition at s d body x i.0 h.0 i.1 w n l k i.2 h.1 named h.2 (definition_step env b at s d body (Some x) q true k w e)))
 definition_gives env w b at s d body o q false k n l e = absurd (cc)
 definition_gives env w b at s d body None q true k n l e = absurd (cc)
@@ -254,7 +252,7 @@ items_give (more_items i is) env w b q l e =
     let f = first_fine (item env b i) (items inner after is) (λ p q. fine (with_output p q)) q e in
     let h = form_gives i env w b f.0 l.0 f.2 in
     let tags = tags_step middle i (gives_step h).0 in
-    subst (λ p. Gives env b (behind_items inner after is) (after_items inner after is) p (functions_of_item i ++ functions_of is) (objects_of_item i ++ objects_of is)) (output_same (with_output f.0 f.1) q f.4)
+    subst (λ p. Gives env b (behind_items inner after is) (after_items inner after is) p (functions_of_item i ++ functions_of is) (objects_of_item i ++ objects_of is)) (fine_same (with_output f.0 f.1) q f.4)
     (one_and_more (declares h tags (nothing_same middle inner refl refl)) (items_give is inner tags.0 after f.1 l.1 f.3))
 
 -- the functions that they define

@@ -1,22 +1,15 @@
 -- Expressions and declarators in the scopes of the two units.
-use Rattle.std.proofs.Common.{◌≡◌, ℕ, Option}
-use Rattle.c_tree.specs.Tree.{CType}
+use Rattle.std.proofs.Common.{ℕ}
 use Rattle.c_syntax.specs.Tree.{Ident, Spec, Expr, MaybeInit, TypeName, Declarator}
-use Rattle.c_rules.specs.Checked.{Checked, fine}
 use Rattle.c_rules.specs.Scopes.{Env, Before}
-use Rattle.c_rules.specs.Declarators.{with_name_demands, behind_parameter}
 use Rattle.c_rules.specs.Objects.{object_declared}
 use Rattle.c_rules.specs.Expressions.{tree, type_named, parameters, value, type_declared}
-use Rattle.c_rules_laws.specs.TypedAlike.{AreUnreserved, MeanAlike, More, TypedAlike}
+use Rattle.c_rules_laws.specs.TypedAlike.{TypedAlike}
 use Rattle.c_rules_laws.specs.EnvironmentLaws.{PartsGiveTheSame}
 use Rattle.c_rules_laws.proofs.Leads.{Leads, fine_leads}
-use Rattle.c_rules_laws.proofs.Names.{left, right, plain, more, alike_of, typed_alike}
+use Rattle.c_rules_laws.proofs.Names.{alike_of}
 use Rattle.c_rules.proofs.ModeExpressions as modes
 use Rattle.c_rules.proofs.ModeBlocks as blocks
-
--- behind a parameter whose declaration is fine
-pub behind_beside : (env : Env) (w : More) → AreUnreserved env.names → MeanAlike env.names w.names → (k : ℕ) (n : Option Ident) (r s : Checked CType) (t : CType) → Leads r s → with_name_demands (left env) n r ≡ fine t → TypedAlike (behind_parameter (left env) k n r) (behind_parameter (right env w) k n s)
-behind_beside env w p m k n r s t h e = typed_alike _ _ (modes.behind_alike env (more w) (plain env.names p) m k n r s t h e)
 
 pub tree_leads : (e f : Env) → TypedAlike e f → (b : Before) (x : Expr) → Leads (tree e b x) (tree f b x)
 tree_leads e f h b x = modes.tree_leads e f (alike_of e f h) b x

@@ -30,12 +30,12 @@ use Rattle.c_rules_laws.specs.MadeTypes.{NotArray, Made, IsSized}
 use Rattle.c_rules_laws.specs.RightScopes.{MeaningTyped, Seen, IsThing, MeaningRight, IsRight, StringsIn}
 use Rattle.c_rules_laws.proofs.Holding.{Holds, on_holds, both_hold, demand_holds, alone_holds, after_part as behind_demands, Each, each_both}
 use Rattle.c_rules_laws.proofs.MadeTypes.{complete_known}
-use Rattle.c_rules_laws.proofs.TypesOfTypedExpressions.{sized_few}
+use Rattle.c_rules_laws.proofs.MadeTypes.{sized_few}
 use Rattle.c_rules_laws.proofs.TypesOfExpressions.{type_declared_made}
 use Rattle.c_rules_laws.proofs.RightTypedExpressions.{complete_thing, complete_in, cells_in}
 use Rattle.c_rules_laws.proofs.RightExpressions.{strings_first, strings_rest}
 use Rattle.c_rules_laws.proofs.RightInitialisers.{TypesAre, LocalRight, local_right, stores_right}
-use Rattle.c_rules_laws.proofs.SitesOfStatements.{held_by_named_same, named_keeps, decl_keeps}
+use Rattle.c_rules_laws.proofs.SitesOfStatements.{held_by_named_same, named_keeps}
 use Rattle.c_rules_laws.proofs.SoundStructs.{same_flat}
 
 -- ## Numbers of variables
@@ -287,6 +287,3 @@ module _ (p : Program) (vars : List CType) where
   pub decl_right : (d : Decl) (env : Env) (b : Before) (next : Next) → IsDeclLexical d → StringsIn p vars (string_number env b) (held_by_decl env next d)
       → Holds (IsStatementTreeRight typed.Stmts env next (names_of_decl d) (λ t. AreFirst p vars t × IsRight p vars (behind_decl env next d))) (local_decl env b next d)
   decl_right (decl at class s ps) env b next l h = parts_right ps env b next at s l h
-
-  pub decl_whole : (d : Decl) (env : Env) (next : Next) → (behind_decl env next d).whole ≡ env.whole
-  decl_whole d env next = decl_keeps (λ e. e.whole) (λ _ _ _. refl) d env next

@@ -30,11 +30,11 @@ use Rattle.c_rules.specs.Expressions.{value_at, place_at, callee, access, after_
 use Rattle.c_rules.proofs.Integers.{integer_cases}
 use Rattle.c_meaning.proofs.Places.{get_left, get_right, length_repeat}
 use Rattle.c_rules_laws.specs.Lexical.{IsLexical, AreLexical, AreSomeExprs}
-use Rattle.c_rules_laws.specs.MadeTypes.{Made, IsSized}
+use Rattle.c_rules_laws.specs.ClosedTypes.{CalleeHas}
+use Rattle.c_rules_laws.specs.MadeTypes.{Made}
 use Rattle.c_rules_laws.specs.RightScopes.{MeaningRight, IsRight, StringsIn}
 use Rattle.c_rules_laws.proofs.Holding.{Holds, holds_map, holds_two, on_holds, both_hold, all_three_hold, Any, anything, demand_holds, after_part, if_holds}
-use Rattle.c_rules_laws.proofs.TypesOfTypedExpressions.{TypedExpressionTyped, valued_typed, operation_typed}
-use Rattle.c_rules_laws.proofs.TypesOfExpressions.{Sized, CalleeTyped, type_named_made, value_at_typed, callee_typed, tree_typed}
+use Rattle.c_rules_laws.proofs.TypesOfExpressions.{type_named_made, result_made, TypeMade, valued_made, sum_made, tree_made, callee_made}
 use Rattle.c_rules_laws.proofs.RightTypedExpressions.{complete_in, cells_in, static_address_right, static_right, TypedExpressionRight, ValueRight, ValuesRight, valued_right}
 use Rattle.c_rules_laws.proofs.RightRules.{CalleeRight, called_right, callee_type_right, callee_through_right, member_right, address_right, indirection_right, unary_right, number_right, size_right, cast_of_right, null_cast_right, SumRight, operation_right, infix_right, choice_right, assignment_by_right, step_right, comma_right}
 pub use Rattle.c_rules.proofs.BelowUnits.{number_below}
@@ -114,19 +114,19 @@ module _ (p : Program) (vars : List CType) where
   -- ## Parts
 
   abbrev pub ValueBoth : Env → TypedExpression → Type 0
-  ValueBoth env g = TypedExpressionTyped (layout_of env) g × ValueRight p vars g
+  ValueBoth env g = TypeMade env g × ValueRight p vars g
 
   abbrev pub PlaceBoth : Env → TypedExpression → Type 0
-  PlaceBoth env g = IsSized (layout_of env) g.ctype × (TypedExpressionRight p vars g × (is_place g ≡ true))
+  PlaceBoth env g = TypeMade env g × (TypedExpressionRight p vars g × (is_place g ≡ true))
 
-  pub value_at_right : (env : Env) → IsRight p vars env → (place : ℕ) (r : Checked TypedExpression) → Holds (Sized env) r → Holds (TypedExpressionRight p vars) r → Holds (ValueBoth env) (value_at env place r)
+  pub value_at_right : (env : Env) → IsRight p vars env → (place : ℕ) (r : Checked TypedExpression) → Holds (TypeMade env) r → Holds (TypedExpressionRight p vars) r → Holds (ValueBoth env) (value_at env place r)
   value_at_right env w place r h k =
-      on_holds (λ g. IsSized (layout_of env) g.ctype × TypedExpressionRight p vars g) (ValueBoth env) r (valued env place) (holds_two (Sized env) (TypedExpressionRight p vars) r h k)
-      (λ g l. holds_two (TypedExpressionTyped (layout_of env)) (ValueRight p vars) (valued env place g) (valued_typed env place g l.0) (valued_right p vars env w.within place g l.0.made l.1))
+      on_holds (λ g. TypeMade env g × TypedExpressionRight p vars g) (ValueBoth env) r (valued env place) (holds_two (TypeMade env) (TypedExpressionRight p vars) r h k)
+      (λ g l. holds_two (TypeMade env) (ValueRight p vars) (valued env place g) (valued_made env place g l.0) (valued_right p vars env w.within place g l.0 l.1))
 
-  place_at_right : (env : Env) → IsRight p vars env → (place : ℕ) (r : Checked TypedExpression) → Holds (Sized env) r → Holds (TypedExpressionRight p vars) r → Holds (PlaceBoth env) (place_at place r)
+  place_at_right : (env : Env) → IsRight p vars env → (place : ℕ) (r : Checked TypedExpression) → Holds (TypeMade env) r → Holds (TypedExpressionRight p vars) r → Holds (PlaceBoth env) (place_at place r)
   place_at_right env w place r h k =
-      on_holds (λ g. IsSized (layout_of env) g.ctype × TypedExpressionRight p vars g) (PlaceBoth env) r (assignable place) (holds_two (Sized env) (TypedExpressionRight p vars) r h k)
+      on_holds (λ g. TypeMade env g × TypedExpressionRight p vars g) (PlaceBoth env) r (assignable place) (holds_two (TypeMade env) (TypedExpressionRight p vars) r h k)
       (λ g l. demand_holds (PlaceBoth env) (is_place g) 4 place g (λ e. (l.0, (l.1, e))))
 
   callee_right : (env : Env) → IsRight p vars env → (at : ℕ) (d : Expr) (r : Checked TypedExpression) → Holds (ValueBoth env) r → Holds (CalleeRight p vars) (callee env at d r)
@@ -138,20 +138,20 @@ module _ (p : Program) (vars : List CType) where
   member_at : (env : Env) → IsRight p vars env → (at : ℕ) (x : Name) (g : TypedExpression) → TypedExpressionRight p vars g → Holds (TypedExpressionRight p vars) (member_of env at x g)
   member_at env w at x g h = member_right p vars env w.within number_below as_long at x g h
 
-  access_right : (env : Env) → IsRight p vars env → (at place : ℕ) (how : Access) (x : Name) (r : Checked TypedExpression) → Holds (Sized env) r → Holds (TypedExpressionRight p vars) r → Holds (TypedExpressionRight p vars) (access env at place how x r)
+  access_right : (env : Env) → IsRight p vars env → (at place : ℕ) (how : Access) (x : Name) (r : Checked TypedExpression) → Holds (TypeMade env) r → Holds (TypedExpressionRight p vars) r → Holds (TypedExpressionRight p vars) (access env at place how x r)
   access_right env w at place dot x r h k = on_holds (TypedExpressionRight p vars) (TypedExpressionRight p vars) r (member_of env at x) k (λ g l. member_at env w at x g l)
   access_right env w at place arrow x r h k =
       on_holds (TypedExpressionRight p vars) (TypedExpressionRight p vars) (on (value_at env place r) (indirection at)) (member_of env at x)
-      (on_holds (ValueBoth env) (TypedExpressionRight p vars) (value_at env place r) (indirection at) (value_at_right env w place r h k) (λ g l. indirection_right p vars (layout_of env) at g l.0.made l.1)) (λ g l. member_at env w at x g l)
+      (on_holds (ValueBoth env) (TypedExpressionRight p vars) (value_at env place r) (indirection at) (value_at_right env w place r h k) (λ g l. indirection_right p vars (layout_of env) at g l.0 l.1)) (λ g l. member_at env w at x g l)
 
   after_operand_right : (env : Env) → IsRight p vars env → (at place : ℕ) (o : Postfix) (r : Checked TypedExpression) → Holds (PlaceBoth env) (place_at place r) → Holds (TypedExpressionRight p vars) (after_operand env at place o r)
-  after_operand_right env w at place post_increment r h = on_holds (PlaceBoth env) (TypedExpressionRight p vars) (place_at place r) (step env at Add true) h (λ g k. step_right p vars env w.within at Add true g tt k.0.made k.1)
-  after_operand_right env w at place post_decrement r h = on_holds (PlaceBoth env) (TypedExpressionRight p vars) (place_at place r) (step env at Sub true) h (λ g k. step_right p vars env w.within at Sub true g tt k.0.made k.1)
+  after_operand_right env w at place post_increment r h = on_holds (PlaceBoth env) (TypedExpressionRight p vars) (place_at place r) (step env at Add true) h (λ g k. step_right p vars env w.within at Add true g tt k.0 k.1)
+  after_operand_right env w at place post_decrement r h = on_holds (PlaceBoth env) (TypedExpressionRight p vars) (place_at place r) (step env at Sub true) h (λ g k. step_right p vars env w.within at Sub true g tt k.0 k.1)
 
-  unary_rule_right : (env : Env) → IsRight p vars env → (at place o : ℕ) (r : Checked TypedExpression) → Holds (Sized env) r → Holds (TypedExpressionRight p vars) r → Holds (TypedExpressionRight p vars) (unary_rule env at place o r)
+  unary_rule_right : (env : Env) → IsRight p vars env → (at place o : ℕ) (r : Checked TypedExpression) → Holds (TypeMade env) r → Holds (TypedExpressionRight p vars) r → Holds (TypedExpressionRight p vars) (unary_rule env at place o r)
   unary_rule_right env w at place o r h k =
       if_holds (TypedExpressionRight p vars) (nat_eq o AMPERSAND) _ _ (on_holds (TypedExpressionRight p vars) (TypedExpressionRight p vars) r (address at place) k (λ g l. address_right p vars at place g l))
-      (on_holds (ValueBoth env) (TypedExpressionRight p vars) (value_at env place r) (unary_of_value at o) (value_at_right env w place r h k) (λ g l. unary_right p vars (layout_of env) at o g l.0.made l.1))
+      (on_holds (ValueBoth env) (TypedExpressionRight p vars) (value_at env place r) (unary_of_value at o) (value_at_right env w place r h k) (λ g l. unary_right p vars (layout_of env) at o g l.0 l.1))
 
   cast_rule_right : (env : Env) (v : Bool) (at : ℕ) (t : Checked CType) (r : Checked TypedExpression) → Holds (ValueBoth env) r → Holds (TypedExpressionRight p vars) (cast_rule v at t r)
   cast_rule_right env true at t r h = after_part (TypedExpressionRight p vars) r (null_cast at) (λ g. null_cast_right p vars at g)
@@ -170,55 +170,54 @@ module _ (p : Program) (vars : List CType) where
     tree_right (a_str at t) env w l b s = string_right env w at b t s
     tree_right (comma at es) env w l b s = on_holds (TreesBoth es) (TypedExpressionRight p vars) (trees env b es) (λ gs. fine (comma_of gs)) (trees_right es env w l.1 b s) (λ gs k. comma_right p vars gs (k.1 l.0) k.0)
     tree_right (sizeof_type at t) env w l b s = on_holds (Made (layout_of env)) (TypedExpressionRight p vars) (type_named env t) (size_of_type env at (place_of_type t)) (type_named_made env t) (λ u m. size_right p vars env w.names_known.sound at (place_of_type t) u m)
-    tree_right (cast at t e) env w l b s = cast_rule_right env (is_void_pointer t) at (type_named env t) (value_at env (place_of e) (tree env b e)) (value_at_right env w (place_of e) (tree env b e) (tree_typed e env w.names_known l b) (tree_right e env w l b s))
+    tree_right (cast at t e) env w l b s = cast_rule_right env (is_void_pointer t) at (type_named env t) (value_at env (place_of e) (tree env b e)) (value_at_right env w (place_of e) (tree env b e) (tree_made env e w.names_known b) (tree_right e env w l b s))
     tree_right (call at d es) env w l b s =
-        all_three_hold (λ f. CalleeTyped env f × CalleeRight p vars f) Any (TreesBoth es) (TypedExpressionRight p vars) (callee env at d (value_at env (place_of d) (tree env b d))) (site_of env (b.sites + calls d) at) (trees env (after_designator b d) es) (called at)
-        (holds_two (CalleeTyped env) (CalleeRight p vars) (callee env at d (value_at env (place_of d) (tree env b d)))
-        (callee_typed env w.names_known at d (value_at env (place_of d) (tree env b d)) (value_at_typed env (place_of d) (tree env b d) (tree_typed d env w.names_known l.0 b)))
-        (callee_right env w at d (value_at env (place_of d) (tree env b d)) (value_at_right env w (place_of d) (tree env b d) (tree_typed d env w.names_known l.0 b) (tree_right d env w l.0 b (strings_first (string_number env b) (strings d) (strings_of_all es) s)))))
+        all_three_hold (λ f. CalleeHas (Made (layout_of env)) f × CalleeRight p vars f) Any (TreesBoth es) (TypedExpressionRight p vars) (callee env at d (value_at env (place_of d) (tree env b d))) (site_of env (b.sites + calls d) at) (trees env (after_designator b d) es) (called at)
+        (holds_two (CalleeHas (Made (layout_of env))) (CalleeRight p vars) (callee env at d (value_at env (place_of d) (tree env b d))) (callee_made env at d w.names_known b)
+        (callee_right env w at d (value_at env (place_of d) (tree env b d)) (value_at_right env w (place_of d) (tree env b d) (tree_made env d w.names_known b) (tree_right d env w l.0 b (strings_first (string_number env b) (strings d) (strings_of_all es) s)))))
         (anything (site_of env (b.sites + calls d) at)) (trees_right es env w l.1 (after_designator b d) (strings_rest env b (suc (calls d)) (strings d) (strings_of_all es) s))
-        (λ f n gs h _ k. called_right p vars at f n gs h.0.returns.result h.1 k.0)
-    tree_right (member at how e y) env w l b s = access_right env w at (place_of e) how y.name (tree env b e) (tree_typed e env w.names_known l b) (tree_right e env w l b s)
-    tree_right (postfix at o e) env w l b s = after_operand_right env w at (place_of e) o (tree env b e) (place_at_right env w (place_of e) (tree env b e) (tree_typed e env w.names_known l b) (tree_right e env w l b s))
+        (λ f n gs h _ k. called_right p vars at f n gs (result_made (layout_of env) f.designator f.returns f.parameters h.0) h.1 k.0)
+    tree_right (member at how e y) env w l b s = access_right env w at (place_of e) how y.name (tree env b e) (tree_made env e w.names_known b) (tree_right e env w l b s)
+    tree_right (postfix at o e) env w l b s = after_operand_right env w at (place_of e) o (tree env b e) (place_at_right env w (place_of e) (tree env b e) (tree_made env e w.names_known b) (tree_right e env w l b s))
     tree_right (prefix at pre_increment e) env w l b s =
-        on_holds (PlaceBoth env) (TypedExpressionRight p vars) (place_at (place_of e) (tree env b e)) (step env at Add false) (place_at_right env w (place_of e) (tree env b e) (tree_typed e env w.names_known l b) (tree_right e env w l b s)) (λ g k. step_right p vars env w.within at Add false g tt k.0.made k.1)
+        on_holds (PlaceBoth env) (TypedExpressionRight p vars) (place_at (place_of e) (tree env b e)) (step env at Add false) (place_at_right env w (place_of e) (tree env b e) (tree_made env e w.names_known b) (tree_right e env w l b s)) (λ g k. step_right p vars env w.within at Add false g tt k.0 k.1)
     tree_right (prefix at pre_decrement e) env w l b s =
-        on_holds (PlaceBoth env) (TypedExpressionRight p vars) (place_at (place_of e) (tree env b e)) (step env at Sub false) (place_at_right env w (place_of e) (tree env b e) (tree_typed e env w.names_known l b) (tree_right e env w l b s)) (λ g k. step_right p vars env w.within at Sub false g tt k.0.made k.1)
+        on_holds (PlaceBoth env) (TypedExpressionRight p vars) (place_at (place_of e) (tree env b e)) (step env at Sub false) (place_at_right env w (place_of e) (tree env b e) (tree_made env e w.names_known b) (tree_right e env w l b s)) (λ g k. step_right p vars env w.within at Sub false g tt k.0 k.1)
     tree_right (prefix at sizeof e) env w l b s =
-        on_holds (Sized env) (TypedExpressionRight p vars) (tree (in_context env sized) nothing_before e) (size_of_expression env at) (tree_typed e (in_context env sized) w.names_known l nothing_before) (λ g k. size_right p vars env w.names_known.sound at at g.ctype k.made)
-    tree_right (unary at o e) env w l b s = unary_rule_right env w at (place_of e) o (tree env b e) (tree_typed e env w.names_known l b) (tree_right e env w l b s)
+        on_holds (TypeMade env) (TypedExpressionRight p vars) (tree (in_context env sized) nothing_before e) (size_of_expression env at) (tree_made (in_context env sized) e w.names_known nothing_before) (λ g k. size_right p vars env w.names_known.sound at at g.ctype k)
+    tree_right (unary at o e) env w l b s = unary_rule_right env w at (place_of e) o (tree env b e) (tree_made env e w.names_known b) (tree_right e env w l b s)
     tree_right (index at e f) env w l b s =
-        on_holds (λ g. Sized env g × SumRight p vars env w.within g) (TypedExpressionRight p vars) (both (value_at env (place_of e) (tree env b e)) (value_at env (place_of f) (tree env (after b e) f)) (sum env at)) (indirection at)
-        (both_hold (ValueBoth env) (ValueBoth env) (λ g. Sized env g × SumRight p vars env w.within g) (value_at env (place_of e) (tree env b e)) (value_at env (place_of f) (tree env (after b e) f)) (sum env at)
-        (value_at_right env w (place_of e) (tree env b e) (tree_typed e env w.names_known l.0 b) (tree_right e env w l.0 b (strings_first (string_number env b) (strings e) (strings f) s)))
-        (value_at_right env w (place_of f) (tree env (after b e) f) (tree_typed f env w.names_known l.1 (after b e)) (tree_right f env w l.1 (after b e) (strings_rest env b (calls e) (strings e) (strings f) s)))
-        (λ g h k m. holds_two (Sized env) (SumRight p vars env w.within) (sum env at g h) (operation_typed (layout_of env) env at Add g h k.0 m.0) (operation_right p vars env w.within at Add g h (k.0.made, k.1) (m.0.made, m.1))))
-        (λ g k. indirection_right p vars (layout_of env) at g k.0.made k.1.1)
+        on_holds (λ g. TypeMade env g × SumRight p vars env w.within g) (TypedExpressionRight p vars) (both (value_at env (place_of e) (tree env b e)) (value_at env (place_of f) (tree env (after b e) f)) (sum env at)) (indirection at)
+        (both_hold (ValueBoth env) (ValueBoth env) (λ g. TypeMade env g × SumRight p vars env w.within g) (value_at env (place_of e) (tree env b e)) (value_at env (place_of f) (tree env (after b e) f)) (sum env at)
+        (value_at_right env w (place_of e) (tree env b e) (tree_made env e w.names_known b) (tree_right e env w l.0 b (strings_first (string_number env b) (strings e) (strings f) s)))
+        (value_at_right env w (place_of f) (tree env (after b e) f) (tree_made env f w.names_known (after b e)) (tree_right f env w l.1 (after b e) (strings_rest env b (calls e) (strings e) (strings f) s)))
+        (λ g h k m. holds_two (TypeMade env) (SumRight p vars env w.within) (sum env at g h) (sum_made env at g h k.0 m.0) (operation_right p vars env w.within at Add g h k m)))
+        (λ g k. indirection_right p vars (layout_of env) at g k.0 k.1.1)
     tree_right (binary at o e f) env w l b s =
         both_hold (ValueBoth env) (ValueBoth env) (TypedExpressionRight p vars) (value_at env (place_of e) (tree env b e)) (value_at env (place_of f) (tree env (after b e) f)) (infix_rule env at o)
-        (value_at_right env w (place_of e) (tree env b e) (tree_typed e env w.names_known l.0 b) (tree_right e env w l.0 b (strings_first (string_number env b) (strings e) (strings f) s)))
-        (value_at_right env w (place_of f) (tree env (after b e) f) (tree_typed f env w.names_known l.1 (after b e)) (tree_right f env w l.1 (after b e) (strings_rest env b (calls e) (strings e) (strings f) s)))
-        (λ g h k m. holds_map (SumRight p vars env w.within) (TypedExpressionRight p vars) (λ _ r. r.0) (infix_rule env at o g h) (infix_right p vars env w.within at o g h (k.0.made, k.1) (m.0.made, m.1)))
+        (value_at_right env w (place_of e) (tree env b e) (tree_made env e w.names_known b) (tree_right e env w l.0 b (strings_first (string_number env b) (strings e) (strings f) s)))
+        (value_at_right env w (place_of f) (tree env (after b e) f) (tree_made env f w.names_known (after b e)) (tree_right f env w l.1 (after b e) (strings_rest env b (calls e) (strings e) (strings f) s)))
+        (λ g h k m. holds_map (SumRight p vars env w.within) (TypedExpressionRight p vars) (λ _ r. r.0) (infix_rule env at o g h) (infix_right p vars env w.within at o g h k m))
     tree_right (assign at o e f) env w l b s =
         both_hold (PlaceBoth env) (ValueBoth env) (TypedExpressionRight p vars) (place_at (place_of e) (tree env b e)) (value_at env (place_of f) (tree env (after b e) f)) (assignment_by env at o)
-        (place_at_right env w (place_of e) (tree env b e) (tree_typed e env w.names_known l.0 b) (tree_right e env w l.0 b (strings_first (string_number env b) (strings e) (strings f) s)))
-        (value_at_right env w (place_of f) (tree env (after b e) f) (tree_typed f env w.names_known l.1 (after b e)) (tree_right f env w l.1 (after b e) (strings_rest env b (calls e) (strings e) (strings f) s)))
-        (λ g h k m. assignment_by_right p vars env w.within at o g h k.0.made k.1 m.1)
+        (place_at_right env w (place_of e) (tree env b e) (tree_made env e w.names_known b) (tree_right e env w l.0 b (strings_first (string_number env b) (strings e) (strings f) s)))
+        (value_at_right env w (place_of f) (tree env (after b e) f) (tree_made env f w.names_known (after b e)) (tree_right f env w l.1 (after b e) (strings_rest env b (calls e) (strings e) (strings f) s)))
+        (λ g h k m. assignment_by_right p vars env w.within at o g h k.0 k.1 m.1)
     tree_right (conditional at c e f) env w l b s =
         all_three_hold (ValueBoth env) (ValueBoth env) (ValueBoth env) (TypedExpressionRight p vars) (value_at env (place_of c) (tree env b c)) (value_at env (place_of e) (tree env (after b c) e)) (value_at env (place_of f) (tree env (after (after b c) e) f)) (choice at)
-        (value_at_right env w (place_of c) (tree env b c) (tree_typed c env w.names_known l.0 b) (tree_right c env w l.0 b (strings_first (string_number env b) (strings c) (strings e ++ strings f) s)))
-        (value_at_right env w (place_of e) (tree env (after b c) e) (tree_typed e env w.names_known l.1 (after b c)) (tree_right e env w l.1 (after b c) (strings_first (string_number env (after b c)) (strings e) (strings f) (strings_rest env b (calls c) (strings c) (strings e ++ strings f) s))))
-        (value_at_right env w (place_of f) (tree env (after (after b c) e) f) (tree_typed f env w.names_known l.2 (after (after b c) e)) (tree_right f env w l.2 (after (after b c) e) (strings_rest env (after b c) (calls e) (strings e) (strings f) (strings_rest env b (calls c) (strings c) (strings e ++ strings f) s))))
+        (value_at_right env w (place_of c) (tree env b c) (tree_made env c w.names_known b) (tree_right c env w l.0 b (strings_first (string_number env b) (strings c) (strings e ++ strings f) s)))
+        (value_at_right env w (place_of e) (tree env (after b c) e) (tree_made env e w.names_known (after b c)) (tree_right e env w l.1 (after b c) (strings_first (string_number env (after b c)) (strings e) (strings f) (strings_rest env b (calls c) (strings c) (strings e ++ strings f) s))))
+        (value_at_right env w (place_of f) (tree env (after (after b c) e) f) (tree_made env f w.names_known (after (after b c) e)) (tree_right f env w l.2 (after (after b c) e) (strings_rest env (after b c) (calls e) (strings e) (strings f) (strings_rest env b (calls c) (strings c) (strings e ++ strings f) s))))
         (λ g h i k m n. choice_right p vars env w.within at g h i k.1 m.1 n.1)
 
     pub trees_right : (xs : Exprs) (env : Env) → IsRight p vars env → AreLexical xs → (b : Before) → StringsIn p vars (string_number env b) (strings_of_all xs) → Holds (TreesBoth xs) (trees env b xs)
     trees_right no_exprs env w l b s = (tt, λ n. absurd n)
     trees_right (more_exprs x xs) env w l b s =
         both_hold (ValueBoth env) (TreesBoth xs) (TreesBoth (more_exprs x xs)) (value_at env (place_of x) (tree env b x)) (trees env (after b x) xs) (λ g gs. fine (g ∷ gs))
-        (value_at_right env w (place_of x) (tree env b x) (tree_typed x env w.names_known l.0 b) (tree_right x env w l.0 b (strings_first (string_number env b) (strings x) (strings_of_all xs) s)))
+        (value_at_right env w (place_of x) (tree env b x) (tree_made env x w.names_known b) (tree_right x env w l.0 b (strings_first (string_number env b) (strings x) (strings_of_all xs) s)))
         (trees_right xs env w l.1 (after b x) (strings_rest env b (calls x) (strings x) (strings_of_all xs) s))
         (λ g gs h k. ((h.1, k.0), λ _. omega arith))
 
   -- the value of an expression
   pub value_right : (x : Expr) (env : Env) → IsRight p vars env → IsLexical x → (b : Before) → StringsIn p vars (string_number env b) (strings x) → Holds (ValueBoth env) (value env b x)
-  value_right x env w l b s = value_at_right env w (place_of x) (tree env b x) (tree_typed x env w.names_known l b) (tree_right x env w l b s)
+  value_right x env w l b s = value_at_right env w (place_of x) (tree env b x) (tree_made env x w.names_known b) (tree_right x env w l b s)

@@ -6,7 +6,7 @@ use Rattle.std.proofs.lemmas.Bool.{leb-true}
 use Rattle.std.proofs.lemmas.Option.{slice_get-map}
 use Rattle.std.proofs.lemmas.List.Elements.{All-head, All-tail}
 use Rattle.c_tree.specs.declared.value.IntType.TheVariants.{Char}
-use Rattle.c_tree.specs.Tree.{CType, void, integer, pointer, array, struct, Program}
+use Rattle.c_tree.specs.Tree.{CType, integer, pointer, array, struct, Program}
 use Rattle.c_tree.specs.Layout.{Structs, repeat, flat, flat_all}
 use Rattle.c_tree.specs.Operands.{IsScalar, IsComplete}
 use Rattle.c_tree.specs.Operators.{value_of}
@@ -28,7 +28,7 @@ use Rattle.c_rules_laws.specs.Lexical.{IsInitLexical, AreInitsLexical, IsMaybeIn
 use Rattle.c_rules_laws.specs.MadeTypes.{Made}
 use Rattle.c_rules_laws.specs.RightScopes.{IsRight, StringsIn}
 use Rattle.c_rules_laws.specs.SoundStructs.{AreSound}
-use Rattle.c_rules_laws.proofs.Holding.{Holds, holds_map, holds_two, on_holds, both_hold, demand_holds, behind_demand, after_part, Each}
+use Rattle.c_rules_laws.proofs.Holding.{Holds, holds_map, holds_two, on_holds, both_hold, demand_holds, behind_demand, after_part}
 use Rattle.c_rules_laws.proofs.SoundStructs.{are_structs}
 use Rattle.c_rules_laws.proofs.RightTypedExpressions.{constant_value, ValueRight, RightAs, null_right, as_if_right}
 use Rattle.c_rules_laws.proofs.RightExpressions.{strings_first, strings_rest, ValueBoth, value_right}
@@ -38,7 +38,7 @@ use Rattle.c_rules.proofs.EntryLemmas.{none_is_no_list}
 use Rattle.c_rules.proofs.NothingMore.{nothing_more}
 use Rattle.c_rules_laws.specs.ConstantForm.{IsConst}
 use Rattle.c_rules_laws.proofs.SitesOfExpressions.{fits_none, fits_both, FitsAt, Span, Counted, holds_with, range_append, value_counted}
-use Rattle.c_rules_laws.proofs.GatheredOfTypedExpressions.{Gathers, AllGather, none_both, lists_gathered, as_if_gathered}
+use Rattle.c_rules_laws.proofs.GatheredOfTypedExpressions.{Gathers, AllGather, none_both, lists_gathered, all_silent, zero_silent, as_if_gathered}
 use Rattle.c_tree.specs.Sites.{all_sites}
 
 -- ## Cells
@@ -194,29 +194,21 @@ module _ (p : Program) (vars : List CType) where
 -- ## The sites in initialisers
 
 abbrev pub InitCounted : Before → ℕ → List (List ℕ) → List TypedExpression → Type 0
-InitCounted b n ws gs = AllGather all_sites (Span b n) gs × FitsAt b n ws
+InitCounted b n ws gs = AllGather all_sites (Span b n) gs × FitsAt 30000 b n ws
 
 one_given : (xs : List ℕ) (g : TypedExpression) → Gathers all_sites xs g → AllGather all_sites xs (g ∷ [])
 one_given xs g h = (xs, [], h, refl, sym (nothing_more xs))
 
-cell_counted : (k : Bool) (at : ℕ) (b : Before) (n : ℕ) (ws : List (List ℕ)) (g : TypedExpression) → Counted b n ws g → Holds (InitCounted b n ws) (cell_of k at g)
+cell_counted : (k : Bool) (at : ℕ) (b : Before) (n : ℕ) (ws : List (List ℕ)) (g : TypedExpression) → Counted 30000 b n ws g → Holds (InitCounted b n ws) (cell_of k at g)
 cell_counted k at b n ws g h = cell_holds (InitCounted b n ws) k at g (one_given (Span b n) g h.0, h.1)
 
-scalar_counted : (k : Bool) (at : ℕ) (t : CType) (b : Before) (n : ℕ) (ws : List (List ℕ)) (r : Checked TypedExpression) → Holds (Counted b n ws) r → Holds (InitCounted b n ws) (scalar_cell k at t r)
+scalar_counted : (k : Bool) (at : ℕ) (t : CType) (b : Before) (n : ℕ) (ws : List (List ℕ)) (r : Checked TypedExpression) → Holds (Counted 30000 b n ws) r → Holds (InitCounted b n ws) (scalar_cell k at t r)
 scalar_counted k at t b n ws r h =
-    on_holds (Counted b n ws) (InitCounted b n ws) (on r (as_if_assigned at t)) (cell_of k at)
-    (on_holds (Counted b n ws) (Counted b n ws) r (as_if_assigned at t) h (λ g l. holds_with (Gathers all_sites (Span b n)) (FitsAt b n ws) (as_if_assigned at t g) l.1 (as_if_gathered all_sites at (Span b n) t g l.0))) (λ g l. cell_counted k at b n ws g l)
-
-zero_silent : (t : CType) → Gathers all_sites [] (typed_zero t)
-zero_silent void = (refl, λ _. refl)
-zero_silent t = (refl, λ _. refl)
-
-all_silent : (gs : List TypedExpression) → Each (Gathers all_sites []) gs → AllGather all_sites [] gs
-all_silent [] h = refl
-all_silent (g ∷ gs) h = ([], [], h.0, all_silent gs h.1, refl)
+    on_holds (Counted 30000 b n ws) (InitCounted b n ws) (on r (as_if_assigned at t)) (cell_of k at)
+    (on_holds (Counted 30000 b n ws) (Counted 30000 b n ws) r (as_if_assigned at t) h (λ g l. holds_with (Gathers all_sites (Span b n)) (FitsAt 30000 b n ws) (as_if_assigned at t g) l.1 (as_if_gathered all_sites at (Span b n) t g l.0))) (λ g l. cell_counted k at b n ws g l)
 
 array_counted : (at : ℕ) (t : CType) (n : ℕ) (e : Expr) (b : Before) → Holds (InitCounted b (calls e) (held_by_one (array t n) e)) (array_cells at t n (text_of e))
-array_counted at (integer Char) n (a_str here w) b = demand_holds (InitCounted b 0 []) (nat_le (length w) n) 14 at (chars n w) (λ _. (all_silent (chars n w) (chars_each (Gathers all_sites []) (λ _. (refl, λ _. refl)) n w), fits_none b.sites b.cells))
+array_counted at (integer Char) n (a_str here w) b = demand_holds (InitCounted b 0 []) (nat_le (length w) n) 14 at (chars n w) (λ _. (all_silent all_sites (chars n w) (chars_each (Gathers all_sites []) (λ _. (refl, λ _. refl)) n w), fits_none 30000 b.sites b.cells))
 array_counted at t n e b = tt
 
 list_counted : (b : Before) (n : ℕ) (ws : List (List ℕ)) (takes : Bool) (at most count : ℕ) (r : Checked (List TypedExpression)) → Holds (λ gs. count ≤ most → InitCounted b n ws gs) r → Holds (InitCounted b n ws) (cells_of_list takes at most count r)
@@ -225,7 +217,7 @@ list_counted b n ws takes at most count r h =
 
 init_both : (b : Before) (n m : ℕ) (xs ys : List (List ℕ)) (gs hs : List TypedExpression) → InitCounted b n xs gs → InitCounted (past b n xs) m ys hs → InitCounted b (n + m) (xs ++ ys) (gs ++ hs)
 init_both b n m xs ys gs hs h k =
-    (subst (λ zs. AllGather all_sites zs (gs ++ hs)) (sym (range_append b.sites n m)) (lists_gathered all_sites gs hs (Span b n) (range_with_len (b.sites + n) m) h.0 k.0), fits_both b.sites b.cells n m xs ys h.1 k.1)
+    (subst (λ zs. AllGather all_sites zs (gs ++ hs)) (sym (range_append b.sites n m)) (lists_gathered all_sites gs hs (Span b n) (range_with_len (b.sites + n) m) h.0 k.0), fits_both 30000 b.sites b.cells n m xs ys h.1 k.1)
 
 mutual
   pub initialised_counted : (i : Init) (env : Env) → env.context ≡ evaluated → (b : Before) (k : Bool) (t : CType) → Holds (InitCounted b (calls_of_init i) (held env t i)) (initialised env b k t i)
@@ -236,7 +228,7 @@ mutual
   initialised_counted i env c b k t = tt
 
   in_turn_counted : (is : syntax.Inits) (env : Env) → env.context ≡ evaluated → (b : Before) (k : Bool) (s : Slots) → Holds (λ gs. count_inits is ≤ capacity s → InitCounted b (calls_of_inits is) (held_in_turn env s is) gs) (in_turn env b k s is)
-  in_turn_counted syntax.no_inits env c b k s = λ _. (all_silent (zeros (layout_of env) s) (slots_each (Gathers all_sites []) zero_silent (layout_of env) s), fits_none b.sites b.cells)
+  in_turn_counted syntax.no_inits env c b k s = λ _. (all_silent all_sites (zeros (layout_of env) s) (slots_each (Gathers all_sites []) (zero_silent all_sites) (layout_of env) s), fits_none 30000 b.sites b.cells)
   in_turn_counted (syntax.more_inits i is) env c b k (copies (suc n) t) =
       both_hold (InitCounted b (calls_of_init i) (held env t i)) (λ hs. count_inits is ≤ n → InitCounted (after_init env b t i) (calls_of_inits is) (held_in_turn env (copies n t) is) hs) (λ gs. count_inits (syntax.more_inits i is) ≤ suc n → InitCounted b (calls_of_init i + calls_of_inits is) (held env t i ++ held_in_turn env (copies n t) is) gs)
       (initialised env b k t i) (in_turn env (after_init env b t i) k (copies n t) is) (λ gs hs. fine (gs ++ hs)) (initialised_counted i env c b k t) (in_turn_counted is env c (after_init env b t i) k (copies n t))
@@ -253,11 +245,11 @@ abbrev pub LocalRight : Program → List CType → Structs → CType → List Ty
 LocalRight p vars structs t gs = (gs ≡ []) ⊎ TypesAre p vars (flat structs t) gs
 
 pub local_counted : (m : MaybeInit) (env : Env) → env.context ≡ evaluated → (b : Before) (t : CType) → Holds (InitCounted b (calls_of_maybe_init m) (held_by env t m)) (initialised_local env b t m)
-local_counted no_init env c b t = (refl, fits_none b.sites b.cells)
+local_counted no_init env c b t = (refl, fits_none 30000 b.sites b.cells)
 local_counted (an_init i) env c b t = initialised_counted i env c b false t
 
 pub static_counted : (m : MaybeInit) (env : Env) → env.context ≡ evaluated → (b : Before) (t : CType) → Holds (InitCounted b (calls_of_maybe_init m) (held_by env t m)) (initialised_static env b t m)
-static_counted no_init env c b t = (all_silent (map typed_zero (flat (layout_of env) t)) (zeros_each (Gathers all_sites []) zero_silent (flat (layout_of env) t)), fits_none b.sites b.cells)
+static_counted no_init env c b t = (all_silent all_sites (map typed_zero (flat (layout_of env) t)) (zeros_each (Gathers all_sites []) (zero_silent all_sites) (flat (layout_of env) t)), fits_none 30000 b.sites b.cells)
 static_counted (an_init i) env c b t = initialised_counted i env c b true t
 
 module _ (p : Program) (vars : List CType) where

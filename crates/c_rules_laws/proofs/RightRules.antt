@@ -15,12 +15,12 @@ use Rattle.c_tree.specs.declared.value.Value.TheVariants as v
 use Rattle.c_tree.specs.Tree.{CType, void, integer, pointer, array, struct, function, CTypes, no_types, more_types, Program, type_of, Expr, Exprs, constant, pointer_add, and, or}
 use Rattle.c_tree.specs.Layout.{Structs, flat, cells, first_cell, sizeof}
 use Rattle.c_tree.specs.Functions.{int, unsigned_int, called_type}
-use Rattle.c_tree.specs.Operands.{IsScalar, IsResult, IsComplete, IsObject, IsTarget, IsIntegerType, IsPromoted, promoted, common, OperatorKind, balanced, shift, ordering, equality, AreOperands, FitsUnary, AreComparable, IsObjectPointer, FitsUpdate, FitsRightSide, MovesPointers}
+use Rattle.c_tree.specs.Operands.{IsScalar, IsResult, IsComplete, IsObject, IsTarget, IsIntegerType, IsPromoted, promoted, common, OperatorKind, balanced, shift, AreOperands, FitsUnary, AreComparable, IsObjectPointer, FitsUpdate, FitsRightSide, MovesPointers}
 use Rattle.c_tree.specs.Operands.{kind_of as kind_of_operator}
 use Rattle.c_tree.specs.Operators.{Answer, binary, table_of, where_shift}
 use Rattle.c_tree.specs.Kinds.{Lies}
 use Rattle.c_tree.specs.Typed.{IsValue, IsPlace, AreArguments, AreMembersAfter}
-use Rattle.c_tree.proofs.OperatorLemmas.{value_of_type}
+use Rattle.c_tree.proofs.OperatorLemmas.{value_of_type, IsArithmetic}
 use Rattle.c_rules.specs.Checked.{fine, met}
 use Rattle.c_rules.specs.Names.{Name, number_among}
 use Rattle.c_rules.specs.Types.{is_integer, is_function, is_scalar, is_void, count}
@@ -38,34 +38,27 @@ use Rattle.c_rules_laws.specs.MadeTypes.{NotArray, Made, IsSized}
 use Rattle.c_rules_laws.specs.SoundStructs.{AreSound, AreWithin}
 use Rattle.c_rules_laws.proofs.Holding.{Holds, held, on_holds, demand_holds, behind_demand, holds_map, and_left, and_right, either}
 use Rattle.c_rules_laws.proofs.Operators.{promoted_is, IsComparison, IsMember, a_member, IsAddress, of_place, of_leader, IsLedTo, led, OfOne, leads, promotes, operates, negates, ArePointers, as_given, left_null, right_null, OfTwo, calculates, compares, orders, equals, adds_right, adds_left, takes, differs, OfChoice, integers_chosen, pointers_chosen, voids_chosen, OfUpdate, assigns, updates, moved, member_agrees, address_agrees, indirection_agrees, unary_agrees, operation_agrees, choice_agrees, assignment_agrees, step_agrees, infix_agrees, joins_and, joins_or}
-use Rattle.c_rules_laws.proofs.MadeTypes.{number_is, scalar_is, complete_known, scalar_not_array, void_is}
+use Rattle.c_rules_laws.proofs.MadeTypes.{number_is, scalar_is, complete_known, scalar_not_array, scalar_result, void_is, sized_few, defined_at}
 use Rattle.c_rules_laws.proofs.SoundStructs.{are_structs, struct_few}
 use Rattle.c_rules_laws.proofs.SizeBounds.{size_bound}
-use Rattle.c_rules_laws.proofs.TypesOfTypedExpressions.{defined_at, sized_few, scalar_result}
 use Rattle.c_rules_laws.proofs.RightTypedExpressions.{complete_thing, target_scalar, seen_same, integer_type, thing_led, complete_in, cells_in, object_in, first_in, ConstRight, not_constant_right, truth_right, unary_constant, binary_constant, and_constant, or_constant, conditional_constant, integer_part, member_constant, moved_constant, FormRight, TypedExpressionRight, ValueRight, ValuesRight, cast_right, converted_right, null_right, assigned_right, fits_scalar}
 use Rattle.std.specs.Prelude.{neg_ℤ}
 use Rattle.c_syntax.specs.Tree.{Infix}
 use Rattle.c_rules.specs.Expressions.{infix_rule}
-
--- kinds of operators that calculate
-abbrev pub IsCalculation : OperatorKind → Type 0
-IsCalculation ordering = ⊥
-IsCalculation equality = ⊥
-IsCalculation k = Unit {0}
 
 common_twice : (i j : IntType) → common i j ≡ common i (common i j)
 common_twice Uint j = refl
 common_twice i Char = refl
 common_twice i j = refl
 
-right_side : (k : OperatorKind) (i j : IntType) → IsCalculation k → FitsRightSide k i (right_type k i j)
+right_side : (k : OperatorKind) (i j : IntType) → IsArithmetic k → FitsRightSide k i (right_type k i j)
 right_side balanced i j h = common_twice i j
 right_side shift i j h = promoted_is j
 right_side k i j h = absurd h
 
-pub assignment_calculates : (code : ℕ) → IsCalculation (kind_of_operator (operator_of_assignment code))
+pub assignment_calculates : (code : ℕ) → IsArithmetic (kind_of_operator (operator_of_assignment code))
 assignment_calculates code =
-    let P : BinOp → Type 0 = λ o. IsCalculation (kind_of_operator o) in
+    let P : BinOp → Type 0 = λ o. IsArithmetic (kind_of_operator o) in
     either P (nat_eq code punctuators.ASSIGN_MULTIPLY) op.Mul _ (λ _. tt)
     (either P (nat_eq code punctuators.ASSIGN_DIVIDE) op.Div _ (λ _. tt)
     (either P (nat_eq code punctuators.ASSIGN_REMAINDER) op.Rem _ (λ _. tt)
@@ -185,7 +178,7 @@ module _ (p : Program) (vars : List CType) where
     module _ (below : (xs : List Name) (x : Name) (i : ℕ) → number_among xs x ≡ Some i → i < length xs) (long : (ms : List Member) → length (map name_of_member ms) ≡ length (map type_of_member ms)) where
       member_given_right : (x : Name) (g h : TypedExpression) → IsMember env x g h → TypedExpressionRight p vars g → TypedExpressionRight p vars h
       member_given_right x g h (a_member s ms k e d n) r =
-          member_place s ms g k (defined_at env w.sound s ms d) e (let b = below (map name_of_member ms) x k n in let l = long ms in omega (arith, b, l)) r
+          member_place s ms g k (defined_at env s ms d) e (let b = below (map name_of_member ms) x k n in let l = long ms in omega (arith, b, l)) r
 
       pub member_right : (at : ℕ) (x : Name) (g : TypedExpression) → TypedExpressionRight p vars g → Holds (TypedExpressionRight p vars) (member_of env at x g)
       member_right at x g h = holds_map (IsMember env x g) (TypedExpressionRight p vars) (λ m k. member_given_right x g m k h) (member_of env at x g) (member_agrees env at at x g).has
@@ -370,12 +363,12 @@ module _ (p : Program) (vars : List CType) where
     place_tree g h s = place_form g.ctype g.form g.constant h.1 s (scalar_not_array g.ctype s) h.0
 
     updated_right : (o : BinOp) (old : Bool) (a : TypedExpression) (e : Expr) → PlaceRight a → IsScalar a.ctype → FitsUpdate p.structs o a.ctype (type_of e) → IsValue p vars e → TypedExpressionRight p vars (updated o old a e)
-    updated_right o old a e g s f h = (let t = place_tree a g s in (refl, (f, t.1, t.0, h), scalar_result p.structs a.ctype s, tt))
+    updated_right o old a e g s f h = (let t = place_tree a g s in (refl, (f, t.1, t.0, h), scalar_result a.ctype s, tt))
 
-    update_right : (at : ℕ) (o : BinOp) (a b g : TypedExpression) → OfUpdate env at o a b g → IsCalculation (kind_of_operator o) → Made (layout_of env) a.ctype → PlaceRight a → ValueRight p vars b → TypedExpressionRight p vars g
+    update_right : (at : ℕ) (o : BinOp) (a b g : TypedExpression) → OfUpdate env at o a b g → IsArithmetic (kind_of_operator o) → Made (layout_of env) a.ctype → PlaceRight a → ValueRight p vars b → TypedExpressionRight p vars g
     update_right at o a b g (assigns f) q m h k =
-        let s = fits_scalar p vars a.ctype b f in let t = place_tree a h s in let r = assigned_right p vars a.ctype b f k in
-        (refl, (s, t.1, r.0.0 ∙ r.1, t.0, r.0.1), scalar_result p.structs a.ctype s, tt)
+        let s = fits_scalar a.ctype b f in let t = place_tree a h s in let r = assigned_right p vars a.ctype b f k in
+        (refl, (s, t.1, r.0.0 ∙ r.1, t.0, r.0.1), scalar_result a.ctype s, tt)
     update_right at o a b g (updates old i j e f) q m h k =
         let r : IntType = right_type (kind_of_operator o) i j in
         let c = converted_right p vars r b (j, f) k in
@@ -390,7 +383,7 @@ module _ (p : Program) (vars : List CType) where
     one_for_right (an_integer i) = (refl, value_of_type (common i widths.Int) (pos 1), tt, tt)
     one_for_right k = (refl, (refl, grind arith), tt, tt)
 
-    pub step_right : (at : ℕ) (o : BinOp) (old : Bool) (a : TypedExpression) → IsCalculation (kind_of_operator o) → Made (layout_of env) a.ctype → PlaceRight a → Holds (TypedExpressionRight p vars) (step env at o old a)
+    pub step_right : (at : ℕ) (o : BinOp) (old : Bool) (a : TypedExpression) → IsArithmetic (kind_of_operator o) → Made (layout_of env) a.ctype → PlaceRight a → Holds (TypedExpressionRight p vars) (step env at o old a)
     step_right at o old a q m h =
         let one : TypedExpression = one_for (kind_of a.ctype) in
         holds_map (OfUpdate env at o a one) (TypedExpressionRight p vars) (λ g u. update_right at o a one g u q m h (one_for_right (kind_of a.ctype))) (step env at o old a) (step_agrees env at at o old a).has

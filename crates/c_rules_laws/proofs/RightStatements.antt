@@ -119,7 +119,7 @@ module _ (p : Program) (vars : List CType) where
   returned_right (there x) env b at t k c l s =
       holds_given (IsRight p vars env) (IsStmt p vars t k c) (returned env b at t (there x)) (λ w.
       on_holds (λ g. RightAs p vars t g × IsScalar t) (IsStmt p vars t k c) (on (value env b x) (as_if_assigned at t)) (λ g. fine (typed.return_value (tree_of g)))
-      (on_holds (ValueBoth p vars env) (λ g. RightAs p vars t g × IsScalar t) (value env b x) (as_if_assigned at t) (value_right p vars x env w l b s) (λ g h. demand_holds (λ g. RightAs p vars t g × IsScalar t) _ 3 at _ (λ q. (assigned_right p vars t g q h.1, fits_scalar p vars t g q))))
+      (on_holds (ValueBoth p vars env) (λ g. RightAs p vars t g × IsScalar t) (value env b x) (as_if_assigned at t) (value_right p vars x env w l b s) (λ g h. demand_holds (λ g. RightAs p vars t g × IsScalar t) _ 3 at _ (λ q. (assigned_right p vars t g q h.1, fits_scalar t g q))))
       (λ g h. (h.1, h.0.0.0 ∙ h.0.1, h.0.0.1)))
 
   -- ## switch

@@ -1,5 +1,5 @@
 -- What expressions give is right in a program: conversions and constants.
-use Rattle.std.proofs.Common.{◌≡◌, ◌⊎◌, inl, inr, ℕ, suc, ◌+◌, ◌-◌, ◌*◌, ◌/◌, ◌≤◌, ◌<◌, ℤ, pos, negsuc, Bool, true, false, ◌||◌, if◌then◌else◌, List, [], ◌∷◌, All, length, Option, Some, slice_get, nat_le, nat_lt, refl, ap, ap₂, sym, subst, ◌∙◌, arith, ◌&&◌}
+use Rattle.std.proofs.Common.{◌≡◌, ◌⊎◌, inl, inr, ℕ, suc, ◌+◌, ◌-◌, ◌*◌, ◌/◌, ◌≤◌, ◌<◌, ℤ, pos, negsuc, Bool, true, false, ◌||◌, if◌then◌else◌, List, [], ◌∷◌, All, length, Some, nat_le, nat_lt, refl, ap, ap₂, sym, subst, ◌∙◌, arith, ◌&&◌}
 use Rattle.std.proofs.lemmas.Bool.{leb-true, ltb-true}
 use Rattle.std.proofs.Math.Nat.{mul-div_cancel}
 use Rattle.std.proofs.lemmas.List.Elements.{All-head, All-tail}
@@ -11,14 +11,14 @@ use Rattle.c_tree.specs.declared.value.BinOp.{BinOp}
 use Rattle.c_tree.specs.declared.value.Pointer.{Pointer}
 use Rattle.c_tree.specs.declared.value.Value.{Value}
 use Rattle.c_tree.specs.declared.value.Value.TheVariants as v
-use Rattle.c_tree.specs.Tree.{CType, void, integer, pointer, array, struct, function, CTypes, Static, Program, type_of, decay}
+use Rattle.c_tree.specs.Tree.{CType, void, integer, pointer, array, struct, function, CTypes, Program, type_of, decay}
 use Rattle.c_tree.specs.Layout.{Structs, repeat, flat, cells, first_cell}
 use Rattle.c_tree.specs.Functions.{int}
 use Rattle.c_tree.specs.Operands.{IsScalar, IsResult, IsComplete, IsObject, IsTarget, IsIntegerType, IsPromoted, Decays, FitsArithmetic}
 use Rattle.c_tree.specs.Operators.{Answer, convert, unary, binary, truth, negated}
 use Rattle.c_tree.specs.Operators as operators
 use Rattle.c_tree.specs.OperatorTypes.{IsAnswer, IsGiven}
-use Rattle.c_tree.specs.Kinds.{Lies, IsPointer, IsConstant, HasType, static_objects, cells_where, if_static}
+use Rattle.c_tree.specs.Kinds.{Lies, IsPointer, IsConstant, HasType, static_objects, cells_where}
 use Rattle.c_tree.specs.Typed.{IsValue, IsPlace, IsStaticOf}
 use Rattle.c_tree.proofs.OperatorLemmas.{converted, arithmetic_fits}
 use Rattle.c_rules.specs.Types.{same_type, is_integer, is_scalar}
@@ -32,7 +32,7 @@ use Rattle.c_meaning.proofs.Steps.{settled}
 use Rattle.c_rules_laws.specs.MadeTypes.{NotArray, Made}
 use Rattle.c_rules_laws.specs.RightScopes.{Seen, IsThing}
 use Rattle.c_rules_laws.specs.SoundStructs.{AreWithin}
-use Rattle.c_rules_laws.proofs.Holding.{Holds, demand_holds, and_left, either}
+use Rattle.c_rules_laws.proofs.Holding.{Each, Holds, demand_holds, and_left, either}
 use Rattle.c_rules_laws.proofs.MadeTypes.{integer_is, scalar_is, type_is, complete_kept, result_not_array}
 use Rattle.c_rules_laws.proofs.SoundStructs.{object_is, same_flat, are_structs}
 use Rattle.c_meaning.proofs.Differences.{has_cell}
@@ -45,10 +45,8 @@ IsLed (array t n) = ⊥
 IsLed t = Unit {0}
 
 pub scalar_of : (t : CType) → IsResult t → IsThing t → IsScalar t
-scalar_of void r h = absurd h
-scalar_of (integer i) r h = tt
-scalar_of (pointer t) r h = tt
-scalar_of t r h = absurd r
+scalar_of void r h = h
+scalar_of t r h = r
 
 pub led_thing : (t : CType) → IsLed t → IsThing t
 led_thing void h = absurd h
@@ -65,9 +63,8 @@ complete_thing structs (function t ts) h = absurd h
 complete_thing structs t h = tt
 
 pub scalar_thing : (t : CType) → IsScalar t → IsThing t
-scalar_thing (integer i) h = tt
-scalar_thing (pointer t) h = tt
-scalar_thing t h = absurd h
+scalar_thing void h = h
+scalar_thing t h = tt
 
 pub target_scalar : (structs : Structs) (t : CType) → IsScalar t → IsTarget structs t
 target_scalar structs (integer i) h = tt
@@ -86,6 +83,12 @@ has_integer_is i t h = absurd (cc)
 pub integer_type : (t : CType) → is_integer t ≡ true → IsIntegerType t
 integer_type (integer i) h = (i, refl)
 integer_type t h = absurd (cc)
+
+-- what may be assigned to has a scalar type
+pub fits_scalar : (t : CType) (g : TypedExpression) → fits t g ≡ true → IsScalar t
+fits_scalar (integer i) g e = tt
+fits_scalar (pointer t) g e = tt
+fits_scalar t g e = absurd (let q : false ≡ true = e in cc)
 
 module _ (old new : Structs) (w : AreWithin old new) where
   pub complete_in : (t : CType) → IsComplete old t → IsComplete new t
@@ -204,9 +207,6 @@ module _ (p : Program) where
   leads_to : (t : CType) (q : Pointer) → HasType p (static_objects p) (pointer t) (v.At q) → Leads t q
   leads_to t q h = (let e : h.0 ≡ t = (let f : pointer t ≡ pointer h.0 = h.1 in cc) in subst (λ u. Leads u q) e h.2)
 
-  static_known : (n : ℕ) (o : Option Static) (s : Static) → slice_get p.statics n ≡ Some s → if_static 0 (cells_where p.structs (slice_get p.statics n)) ≡ Some (flat p.structs s.ctype)
-  static_known n o s e = ap (λ x. cells_where p.structs x) e
-
   pub static_address_right : (string : Bool) (n k : ℕ) (t : CType) → IsStaticOf p string n t → IsObject p.structs t → k ≡ cells p.structs t → ConstRight (pointer t) (known (address_of_static n k))
   static_address_right string n k t h o e = (
     t,
@@ -295,8 +295,7 @@ module _ (p : Program) (vars : List CType) where
   ValueRight g = (type_of (tree_of g) ≡ g.ctype) × IsValue p vars (tree_of g) × IsResult g.ctype × ConstRight p g.ctype g.constant
 
   abbrev pub ValuesRight : List TypedExpression → Type 0
-  ValuesRight [] = Unit {0}
-  ValuesRight (g ∷ gs) = ValueRight g × ValuesRight gs
+  ValuesRight = Each ValueRight
 
   -- ## Conversions of places to values
 
@@ -365,14 +364,6 @@ module _ (p : Program) (vars : List CType) where
 
   pub assigned_right : (t : CType) (g : TypedExpression) → fits t g ≡ true → ValueRight g → RightAs t (assigned t g)
   assigned_right t g f h = assigned_kind (kind_of t) t g refl f h
-
-  fits_scalar_kind : (k : Kind) (t : CType) (g : TypedExpression) → kind_of t ≡ k → fits_kind k t g ≡ true → IsScalar t
-  fits_scalar_kind (an_integer i) t g e f = subst IsScalar (sym (kind_integer t i e)) tt
-  fits_scalar_kind (a_pointer u) t g e f = subst IsScalar (sym (kind_pointer t u e)) tt
-  fits_scalar_kind neither t g e f = absurd (cc)
-
-  pub fits_scalar : (t : CType) (g : TypedExpression) → fits t g ≡ true → IsScalar t
-  fits_scalar t g f = fits_scalar_kind (kind_of t) t g refl f
 
   pub as_if_right : (at : ℕ) (t : CType) (g : TypedExpression) → ValueRight g → Holds (RightAs t) (as_if_assigned at t g)
   as_if_right at t g h = demand_holds (RightAs t) (fits t g) 3 at (assigned t g) (λ f. assigned_right t g f h)

@@ -32,13 +32,13 @@ use Rattle.c_rules.specs.Functions.{with_parameter, with_parameters}
 
 -- these are the sites of a part, with so many calls and these strings
 abbrev pub IsSpan : Before → ℕ → List (List ℕ) → List ℕ → Type 0
-IsSpan b n ws xs = (xs ≡ Span b n) × FitsAt b n ws
+IsSpan b n ws xs = (xs ≡ Span b n) × FitsAt 30000 b n ws
 
 pub span_both : (b : Before) (n m : ℕ) (ws vs : List (List ℕ)) (xs ys : List ℕ) → IsSpan b n ws xs → IsSpan (past b n ws) m vs ys → IsSpan b (n + m) (ws ++ vs) (xs ++ ys)
-span_both b n m ws vs xs ys h k = (ap₂ (λ x y. x ++ y) h.0 k.0 ∙ sym (range_append b.sites n m), fits_both b.sites b.cells n m ws vs h.1 k.1)
+span_both b n m ws vs xs ys h k = (ap₂ (λ x y. x ++ y) h.0 k.0 ∙ sym (range_append b.sites n m), fits_both 30000 b.sites b.cells n m ws vs h.1 k.1)
 
 span_none : (b : Before) → IsSpan b 0 [] []
-span_none b = (refl, fits_none b.sites b.cells)
+span_none b = (refl, fits_none 30000 b.sites b.cells)
 
 span_alone : (b : Before) (n : ℕ) (ws : List (List ℕ)) (xs : List ℕ) → IsSpan b n ws xs → IsSpan b n ws (xs ++ [])
 span_alone b n ws xs h = (nothing_more xs ∙ h.0, h.1)
@@ -95,7 +95,7 @@ local_of_span : (env inner : Env) → inner.context ≡ evaluated → (b : Befor
 local_of_span env inner e b next x m o same =
     on_holds (InitCounted b (calls_of_maybe_init m) (held_by inner o.whole m)) (StmtSpan b (calls_of_maybe_init m) (held_by env o.whole m)) (initialised_local inner b o.whole m) _ (local_counted m inner e b o.whole)
     (λ gs h.
-    (let s : IsSpan b (calls_of_maybe_init m) (held_by env o.whole m) (sites_of_inits (stores_from 0 gs)) = (stores_gathered all_sites 0 gs (Span b (calls_of_maybe_init m)) h.0, subst (λ ws. FitsAt b (calls_of_maybe_init m) ws) same h.1) in
+    (let s : IsSpan b (calls_of_maybe_init m) (held_by env o.whole m) (sites_of_inits (stores_from 0 gs)) = (stores_gathered all_sites 0 gs (Span b (calls_of_maybe_init m)) h.0, subst (λ ws. FitsAt 30000 b (calls_of_maybe_init m) ws) same h.1) in
     either (StmtSpan b (calls_of_maybe_init m) (held_by env o.whole m)) (is_added x.name) (record { tree = typed.declare (number_in next x.name) (stores_from 0 gs); plain = []; added = o.whole ∷ [] }) (record { tree = typed.declare (number_in next x.name) (stores_from 0 gs); plain = o.whole ∷ []; added = [] }) (λ _. s) s))
 
 local_span : (env : Env) → env.context ≡ evaluated → (b : Before) (next : Next) (x : Ident) (m : MaybeInit) (r : Checked Object) → Holds (StmtSpan b (calls_of_maybe_init m) (held_by_object env m r)) (local env b next x m r)
@@ -129,8 +129,8 @@ decl_span (decl at class s ps) env c b next = parts_span ps env c b next at s
 
 condition_span : (env : Env) → env.context ≡ evaluated → (b : Before) (at : ℕ) (x : Expr) → Holds (λ e. IsSpan b (calls x) (strings x) (sites_of e)) (condition_at at (value env b x))
 condition_span env c b at x =
-    on_holds (Counted b (calls x) (strings x)) (λ e. IsSpan b (calls x) (strings x) (sites_of e)) (value env b x) (condition at) (value_counted x env c b)
-    (λ g h. holds_with (λ e. sites_of e ≡ Span b (calls x)) (FitsAt b (calls x) (strings x)) (condition at g) h.1 (condition_gathered all_sites at (Span b (calls x)) g h.0))
+    on_holds (Counted 30000 b (calls x) (strings x)) (λ e. IsSpan b (calls x) (strings x) (sites_of e)) (value env b x) (condition at) (value_counted x env c b)
+    (λ g h. holds_with (λ e. sites_of e ≡ Span b (calls x)) (FitsAt 30000 b (calls x) (strings x)) (condition at g) h.1 (condition_gathered all_sites at (Span b (calls x)) g h.0))
 
 abbrev MaybeSpan : Before → Maybe → typed.Maybe → Type 0
 MaybeSpan b m e = IsSpan b (calls_of_maybe m) (strings_of_maybe m) (sites_of_maybe e)
@@ -141,18 +141,18 @@ test_span (there x) env c b at = on_holds (λ e. IsSpan b (calls x) (strings x) 
 
 step_span : (m : Maybe) (env : Env) → env.context ≡ evaluated → (b : Before) → Holds (MaybeSpan b m) (step_of env b m)
 step_span absent env c b = span_none b
-step_span (there x) env c b = on_holds (Counted b (calls x) (strings x)) (MaybeSpan b (there x)) (value env b x) (λ g. fine (typed.there (tree_of g))) (value_counted x env c b) (λ g h. (h.0.0, h.1))
+step_span (there x) env c b = on_holds (Counted 30000 b (calls x) (strings x)) (MaybeSpan b (there x)) (value env b x) (λ g. fine (typed.there (tree_of g))) (value_counted x env c b) (λ g h. (h.0.0, h.1))
 
 first_span : (x : First) (env : Env) → env.context ≡ evaluated → (b : Before) (next : Next) → Holds (StmtsSpan b (calls_of_first x) (held_by_first env next x)) (first_of env b next x)
 first_span first_absent env c b next = span_none b
-first_span (first_expr x) env c b next = on_holds (Counted b (calls x) (strings x)) (StmtsSpan b (calls x) (strings x)) (value env b x) (λ g. fine (alone (bare (typed.evaluate (tree_of g))))) (value_counted x env c b) (λ g h. span_alone b (calls x) (strings x) (sites_of (tree_of g)) (h.0.0, h.1))
+first_span (first_expr x) env c b next = on_holds (Counted 30000 b (calls x) (strings x)) (StmtsSpan b (calls x) (strings x)) (value env b x) (λ g. fine (alone (bare (typed.evaluate (tree_of g))))) (value_counted x env c b) (λ g h. span_alone b (calls x) (strings x) (sites_of (tree_of g)) (h.0.0, h.1))
 first_span (first_decl d) env c b next = decl_span d env c b next
 
 returned_span : (m : Maybe) (env : Env) → env.context ≡ evaluated → (b : Before) (at : ℕ) (t : CType) → Holds (λ s. IsSpan b (calls_of_maybe m) (strings_of_maybe m) (sites_of_stmt s)) (returned env b at t m)
 returned_span absent env c b at t = demand_holds (λ s. IsSpan b 0 [] (sites_of_stmt s)) _ 3 at typed.return_void (λ _. span_none b)
 returned_span (there x) env c b at t =
-    on_holds (Counted b (calls x) (strings x)) (λ s. IsSpan b (calls x) (strings x) (sites_of_stmt s)) (on (value env b x) (as_if_assigned at t)) (λ g. fine (typed.return_value (tree_of g)))
-    (on_holds (Counted b (calls x) (strings x)) (Counted b (calls x) (strings x)) (value env b x) (as_if_assigned at t) (value_counted x env c b) (λ g h. holds_with (Gathers all_sites (Span b (calls x))) (FitsAt b (calls x) (strings x)) (as_if_assigned at t g) h.1 (as_if_gathered all_sites at (Span b (calls x)) t g h.0))) (λ g h. (h.0.0, h.1))
+    on_holds (Counted 30000 b (calls x) (strings x)) (λ s. IsSpan b (calls x) (strings x) (sites_of_stmt s)) (on (value env b x) (as_if_assigned at t)) (λ g. fine (typed.return_value (tree_of g)))
+    (on_holds (Counted 30000 b (calls x) (strings x)) (Counted 30000 b (calls x) (strings x)) (value env b x) (as_if_assigned at t) (value_counted x env c b) (λ g h. holds_with (Gathers all_sites (Span b (calls x))) (FitsAt 30000 b (calls x) (strings x)) (as_if_assigned at t g) h.1 (as_if_gathered all_sites at (Span b (calls x)) t g h.0))) (λ g h. (h.0.0, h.1))
 
 switched_sites : (at : ℕ) (xs : List ℕ) (g : TypedExpression) (k : Kind) → Gathers all_sites xs g → Holds (Gathers all_sites xs) (switched_kind at g k)
 switched_sites at xs g (an_integer i) h = converted_gathered all_sites xs (promoted i) g h
@@ -165,7 +165,7 @@ mutual
   pub stmt_span : (s : Stmt) (env : Env) → env.context ≡ evaluated → (a : Around) (b : Before) (next : Next) → Holds (StmtSpan b (calls_of_stmt s) (held_by_stmt env next s)) (stmt env a b next s)
   stmt_span (block at is) env c a b next = on_holds (StmtsSpan b (calls_of_block is) (held_by_block (inside env) next is)) (StmtSpan b (calls_of_block is) (held_by_block (inside env) next is)) (items_of_block (inside env) a b next is) (λ p. fine (with_tree p (typed.block p.tree))) (block_span is (inside env) c a b next) (λ p h. h)
   stmt_span (empty at) env c a b next = span_none b
-  stmt_span (evaluate at x) env c a b next = on_holds (Counted b (calls x) (strings x)) (StmtSpan b (calls x) (strings x)) (value env b x) (λ g. fine (bare (typed.evaluate (tree_of g)))) (value_counted x env c b) (λ g h. (h.0.0, h.1))
+  stmt_span (evaluate at x) env c a b next = on_holds (Counted 30000 b (calls x) (strings x)) (StmtSpan b (calls x) (strings x)) (value env b x) (λ g. fine (bare (typed.evaluate (tree_of g)))) (value_counted x env c b) (λ g h. (h.0.0, h.1))
   stmt_span (only_if at x s) env c a b next =
       both_hold (λ e. IsSpan b (calls x) (strings x) (sites_of e)) (StmtSpan (after b x) (calls_of_stmt s) (held_by_stmt env next s)) (StmtSpan b (calls x + calls_of_stmt s) (strings x ++ held_by_stmt env next s))
       (condition_at at (value env b x)) (stmt env a (after b x) next s) (λ e p. fine (with_tree p (typed.if_else e p.tree typed.empty))) (condition_span env c b at x) (stmt_span s env c a (after b x) next)
@@ -202,9 +202,9 @@ mutual
       (span_both b2 (calls_of_maybe step) (calls_of_stmt s) (strings_of_maybe step) (held_by_stmt inner names s) (sites_of_maybe t.second) (sites_of_stmt q.tree) k.1 l)))
   stmt_span (switch_on at x gs) env c a b next =
       let r = switched at (value env b x) in
-      both_hold (Counted b (calls x) (strings x)) (GroupsSpan (after b x) (calls_of_groups gs) (held_by_groups env next gs)) (StmtSpan b (calls x + calls_of_groups gs) (strings x ++ held_by_groups env next gs))
+      both_hold (Counted 30000 b (calls x) (strings x)) (GroupsSpan (after b x) (calls_of_groups gs) (held_by_groups env next gs)) (StmtSpan b (calls x + calls_of_groups gs) (strings x ++ held_by_groups env next gs))
       r (groups_of_switch env (in_switch a) (after b x) next (label_type r) gs) (switch_of at)
-      (on_holds (Counted b (calls x) (strings x)) (Counted b (calls x) (strings x)) (value env b x) (λ g. switched_kind at g (kind_of g.ctype)) (value_counted x env c b) (λ g h. holds_with (Gathers all_sites (Span b (calls x))) (FitsAt b (calls x) (strings x)) (switched_kind at g (kind_of g.ctype)) h.1 (switched_sites at (Span b (calls x)) g (kind_of g.ctype) h.0)))
+      (on_holds (Counted 30000 b (calls x) (strings x)) (Counted 30000 b (calls x) (strings x)) (value env b x) (λ g. switched_kind at g (kind_of g.ctype)) (value_counted x env c b) (λ g h. holds_with (Gathers all_sites (Span b (calls x))) (FitsAt 30000 b (calls x) (strings x)) (switched_kind at g (kind_of g.ctype)) h.1 (switched_sites at (Span b (calls x)) g (kind_of g.ctype) h.0)))
       (groups_span gs env c (in_switch a) (after b x) next (label_type r))
       (λ g l h k. demand_holds (StmtSpan b (calls x + calls_of_groups gs) (strings x ++ held_by_groups env next gs)) _ 7 at _ (λ _. span_both b (calls x) (calls_of_groups gs) (strings x) (held_by_groups env next gs) (sites_of (tree_of g)) (sites_of_groups l.groups.tree) (h.0.0, h.1) k))
   stmt_span (break_off at) env c a b next = demand_holds (StmtSpan b 0 []) a.breaks 8 at (bare typed.break_off) (λ _. span_none b)

@@ -75,7 +75,7 @@ spans_both b a c q r h k = record {
 
 -- ## Objects
 
-no_range : (a n : ℕ) → range_with_len a n ≡ [] → n ≡ 0
+pub no_range : (a n : ℕ) → range_with_len a n ≡ [] → n ≡ 0
 no_range a zero e = refl
 no_range a (suc n) e = absurd (cc)
 
@@ -94,7 +94,7 @@ object_span env w b x m o gs h e =
     let counted : InitCounted start n (held_by inner o.whole m) gs = held (InitCounted start n (held_by inner o.whole m)) (initialised_static inner start o.whole m) gs (static_counted m inner w.runs start o.whole) e in
     let known : AllKnown gs = held AllKnown (initialised_static inner start o.whole m) gs (static_known m inner start o.whole) e in
     let none : n ≡ 0 = no_range b.sites n (known_sites gs (Span start n) known counted.0) in
-    let fits : FitsAt start n ws = subst (FitsAt start n) seen counted.1 in
+    let fits : FitsAt 30000 start n ws = subst (FitsAt 30000 start n) seen counted.1 in
     let some = has_cell (layout_of env) (are_structs (layout_of env) w.names_known.sound) o.whole h.right.known in
     let many = string_many ws in
     record {

@@ -7,7 +7,7 @@ use Rattle.c_tree.specs.Operands.{IsObject}
 use Rattle.c_tree.specs.Kinds.{HasType, static_objects}
 use Rattle.c_tree.specs.Program.{IsFunction, IsStatic}
 use Rattle.c_tree.specs.Typed.{IsStaticOf}
-use Rattle.c_syntax.specs.Tree.{Ident, Storage, Spec, Declarator, MaybeInit, Parts, no_parts, more_parts, Decl, decl, Stmt, BlockItems, Item, enum_item, decl_item, function_item, Items, no_items, more_items}
+use Rattle.c_syntax.specs.Tree.{Ident, Spec, Declarator, MaybeInit, Stmt, BlockItems}
 use Rattle.c_syntax.specs.Tree as syntax
 use Rattle.c_rules.specs.Checked.{fine}
 use Rattle.c_rules.specs.Scopes.{Env, declared_here, a_static, with_name, layout_of, Before}
@@ -26,7 +26,7 @@ use Rattle.c_rules_laws.specs.MadeTypes.{Made, IsSized}
 use Rattle.c_rules_laws.specs.RightScopes.{MeaningRight, IsRight, StringsIn}
 use Rattle.c_rules_laws.proofs.Holding.{held, Each, each_both}
 use Rattle.c_rules_laws.proofs.SoundStructs.{same_flat}
-use Rattle.c_rules_laws.proofs.TypesOfTypedExpressions.{sized_few}
+use Rattle.c_rules_laws.proofs.MadeTypes.{sized_few}
 use Rattle.c_rules_laws.proofs.TypesOfExpressions.{type_declared_made}
 use Rattle.c_rules_laws.proofs.RightTypedExpressions.{ConstRight, complete_in, cells_in}
 use Rattle.c_rules_laws.proofs.RightInitialisers.{IsKnownConstant, AllKnown, TypesAre, static_right}

@@ -93,29 +93,20 @@ module _ (p : Program) where
     long_here = t.long ∙ ap length (sym same_functions)
 
     function_at : (x : Name) (b : Binding) (u : CType) (d : Bool) → lookup env.names x ≡ Some b → b.means ≡ a_function u d → (i : ℕ) → number_among env.whole.functions x ≡ Some i → value_type p i ≡ Some u
-    function_at x b u d e m i n = by_later (l.0.means) refl (subst (λ z. Agrees z l.0.means) m l.2)
+    function_at x b u d e m i n = (let l = g.later x b e in by_later l.0 l.1 (l.0.means) refl (subst (λ z. Agrees z l.0.means) m l.2))
       where
-        l : (c : Binding) × (lookup last.names x ≡ Some c) × Agrees b.means c.means
-        l = g.later x b e
-
-        by_later : (z : Meaning) → l.0.means ≡ z → Agrees (a_function u d) z → value_type p i ≡ Some u
-        by_later (a_function v c) q a =
-            let n2 : number_among last.whole.functions x ≡ Some i = subst (λ fs. number_among fs x ≡ Some i) same_functions n in
-            let f = t.functions x l.0 v c i l.1 q n2 in
+        by_later : (l : Binding) → lookup last.names x ≡ Some l → (z : Meaning) → l.means ≡ z → Agrees (a_function u d) z → value_type p i ≡ Some u
+        by_later l k (a_function v c) q a =
+            let f = t.functions x l v c i k q (subst (λ fs. number_among fs x ≡ Some i) same_functions n) in
             defined_value i f.0 f.1 ∙ ap Some (f.2 ∙ sym a.0)
-        by_later z q a = absurd a
+        by_later l k z q a = absurd a
 
     pub object_at : (x : Name) (b : Binding) (s u : CType) (d : Bool) → lookup env.names x ≡ Some b → b.means ≡ a_static s u d → (n : ℕ) → object_number env x ≡ Some n → IsStaticOf p false n u
-    object_at x b s u d e m n o = by_later (l.0.means) refl (subst (λ z. Agrees z l.0.means) m l.2)
+    object_at x b s u d e m n o = (let l = g.later x b e in by_later l.0 l.1 (l.0.means) refl (subst (λ z. Agrees z l.0.means) m l.2))
       where
-        l : (c : Binding) × (lookup last.names x ≡ Some c) × Agrees b.means c.means
-        l = g.later x b e
-
-        by_later : (z : Meaning) → l.0.means ≡ z → Agrees (a_static s u d) z → IsStaticOf p false n u
-        by_later (a_static r v c) q a =
-            let n2 : number_among last.whole.objects x ≡ Some n = subst (λ w. number_among w.objects x ≡ Some n) (sym g.whole) o in
-            subst (IsStaticOf p false n) (sym a.0) (t.objects x l.0 r v c n l.1 q n2)
-        by_later z q a = absurd a
+        by_later : (l : Binding) → lookup last.names x ≡ Some l → (z : Meaning) → l.means ≡ z → Agrees (a_static s u d) z → IsStaticOf p false n u
+        by_later l k (a_static r v c) q a = subst (IsStaticOf p false n) (sym a.0) (t.objects x l r v c n k q (subst (λ w. number_among w.objects x ≡ Some n) (sym g.whole) o))
+        by_later l k z q a = absurd a
 
     meaning_right : (x : Name) (b : Binding) → lookup env.names x ≡ Some b → (m : Meaning) → b.means ≡ m → FileMeaning env x m → MeaningRight p vars env x m
     meaning_right x b e (a_static seen whole d) q h =

@@ -16,7 +16,6 @@ use Rattle.c_rules_laws.proofs.Definitions.{definition_fine}
 use Rattle.c_rules_laws.proofs.FileScopes.{Agrees, Follows, follows_on}
 use Rattle.c_rules_laws.proofs.FileItems.{IsFunctionNamed}
 use Rattle.c_rules_laws.proofs.DistinctNames.{itself}
-pub use Rattle.c_rules_laws.proofs.NamesOfItems.{output_same}
 use Rattle.c_rules_laws.proofs.NamesOfItems.{defined_true, Gives, starts, declares, an_object, a_definition, one_and_more, gives_step}
 use Rattle.c_rules.specs.TypedExpression.{TypedExpression}
 
@@ -78,9 +77,6 @@ function_shape env b place d x is (function t ts) f e =
     let j = demand_fine _ 13 x.at (record { name = x.name; ctype = function t ts; variables = variables_of ts i.1; body = typed.block i.1.tree }) f i.4 in
     (ap (λ f. f.name) (sym j.1), ap (λ f. f.ctype) (sym j.1))
 function_shape env b place d x is u f e = absurd (cc)
-
-pub type_same : (t u : CType) → fine t ≡ fine u → t ≡ u
-type_same t u e = cc
 
 -- ## Functions and objects
 

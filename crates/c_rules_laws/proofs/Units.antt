@@ -16,20 +16,12 @@ use Rattle.c_rules.specs.Units.{functions_of_item, functions_of, objects_of_part
 use Rattle.c_rules.proofs.CheckedLemmas.{typed_items}
 use Rattle.c_rules_laws.specs.PlaceLaws.{UnitsAreTypedAlike}
 use Rattle.c_rules_laws.proofs.Alike.{Alike, alike, fine_there, fine_here, on_alike}
-use Rattle.c_rules_laws.proofs.Counted.{declared_name_same}
+use Rattle.c_rules_laws.proofs.Expressions.{joins}
+use Rattle.c_rules_laws.proofs.Counted.{declared_name_same, items_tags}
 use Rattle.c_rules_laws.proofs.Functions.{declares_same}
 use Rattle.c_rules_laws.proofs.Items.{defines_same, items_alike, behind_items_same}
-use Rattle.c_rules_laws.proofs.Tags.{items_tags}
 
 -- ## What is known of the whole unit from its syntax
-
-item_functions_same : (i : Item) → functions_of_item (unplaced_item i) ≡ functions_of_item i
-item_functions_same (function_item at class s d body) = ap (λ (x : Name). x ∷ []) (declared_name_same d)
-item_functions_same i = refl
-
-functions_same : (u : Items) → functions_of (unplaced_unit u) ≡ functions_of u
-functions_same no_items = refl
-functions_same (more_items i is) = ap₂ (λ (v : List Name) w. v ++ w) (item_functions_same i) (functions_same is)
 
 parts_objects_same : (class : Storage) (ps : Parts) → objects_of_parts class (unplaced_parts ps) ≡ objects_of_parts class ps
 parts_objects_same class no_parts = refl
@@ -41,20 +33,21 @@ parts_objects_same class (more_parts d m ps) =
 decl_objects_same : (d : Decl) → objects_of_decl (unplaced_decl d) ≡ objects_of_decl d
 decl_objects_same (decl at class s ps) = parts_objects_same class ps
 
-item_objects_same : (i : Item) → objects_of_item (unplaced_item i) ≡ objects_of_item i
-item_objects_same (decl_item at d) = decl_objects_same d
-item_objects_same i = refl
+item_same : (i : Item) → (functions_of_item (unplaced_item i) ≡ functions_of_item i) × (objects_of_item (unplaced_item i) ≡ objects_of_item i)
+item_same (function_item at class s d body) = (ap (λ (x : Name). x ∷ []) (declared_name_same d), refl)
+item_same (decl_item at d) = (refl, decl_objects_same d)
+item_same i = (refl, refl)
 
-objects_same : (u : Items) → objects_of (unplaced_unit u) ≡ objects_of u
-objects_same no_items = refl
-objects_same (more_items i is) = ap₂ (λ (v : List Name) w. v ++ w) (item_objects_same i) (objects_same is)
+names_same : (u : Items) → (functions_of (unplaced_unit u) ≡ functions_of u) × (objects_of (unplaced_unit u) ≡ objects_of u)
+names_same no_items = (refl, refl)
+names_same (more_items i is) = (let h = item_same i in let g = names_same is in (joins h.0 g.0, joins h.1 g.1))
 
 tags_same : (u : Items) → tags_of (unplaced_unit u) ≡ tags_of u
 tags_same u = ap₂ (λ (v w : List Name). each_once [] (v ++ w)) (items_tags true u) (items_tags false u)
 
 whole_same : (m : Mode) (u : Items) → whole_of m (unplaced_unit u) ≡ whole_of m u
 whole_same m u =
-    ap₂ (λ (fs os : List Name). record { mode = m; functions = fs; objects = os; tags = tags_of (unplaced_unit u) }) (functions_same u) (objects_same u)
+    ap₂ (λ (fs os : List Name). record { mode = m; functions = fs; objects = os; tags = tags_of (unplaced_unit u) }) ((names_same u).0) ((names_same u).1)
     ∙ ap (λ (ts : List Name). record { mode = m; functions = functions_of u; objects = objects_of u; tags = ts }) (tags_same u)
 
 before_same : (m : Mode) (u : Items) → env_before m (unplaced_unit u) ≡ env_before m u
@@ -81,7 +74,7 @@ program_same m u p e =
       functions = p.functions;
       main = unwrap_or (number_among fs (codes "main")) 0;
       statics = p.statics ++ map static_string (strings_of m (unplaced_unit u));
-    }) (behind_same m u p e) (functions_same u)
+    }) (behind_same m u p e) ((names_same u).0)
     ∙ ap (λ (ws : List (List ℕ)). record {
       structs = layout_of (env_behind m u);
       functions = p.functions;
@@ -97,7 +90,7 @@ items_typed_alike m u =
 
 few_names_same : (u : Items) → few_names (unplaced_unit u) ≡ few_names u
 few_names_same u =
-    ap₂ (λ (fs os : List Name). demand (nat_lt (length fs) (2 ^ 31) && (nat_lt (length os) (2 ^ 31) && nat_lt (length (tags_of (unplaced_unit u))) (2 ^ 31))) C13 0 met) (functions_same u) (objects_same u)
+    ap₂ (λ (fs os : List Name). demand (nat_lt (length fs) (2 ^ 31) && (nat_lt (length os) (2 ^ 31) && nat_lt (length (tags_of (unplaced_unit u))) (2 ^ 31))) C13 0 met) ((names_same u).0) ((names_same u).1)
     ∙ ap (λ (ts : List Name). demand (nat_lt (length (functions_of u)) (2 ^ 31) && (nat_lt (length (objects_of u)) (2 ^ 31) && nat_lt (length ts) (2 ^ 31))) C13 0 met) (tags_same u)
 
 unit_alike : (m : Mode) (u : Items) → Alike Program (checked u m) (checked (unplaced_unit u) m)

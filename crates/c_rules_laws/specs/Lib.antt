@@ -2,8 +2,10 @@
 -- SoundStructs (6.7.2.1), RightScopes (what names mean is there in the program); then the laws: WellTyped (parts of a
 -- typed unit are well-typed), Programs (the unit is a well-typed program), PlaceLaws (the places of nodes don't
 -- matter), TypedAlike and EnvironmentLaws (parts that stay as they are in an instrumented unit).
--- None is for private contracts and proofs alone.
+-- ClosedTypes (properties of types that pass from names and members to expressions) is for proofs, but for what a scope
+-- has.
 pub mod AreSites
+pub mod ClosedTypes
 pub mod ConstantForm
 pub mod EnvironmentLaws
 pub mod Lexical

@@ -21,6 +21,7 @@ use Rattle.c_syntax.specs.Print.{spec_kinds, prefix_kind, postfix_kind, access_k
 use Rattle.c_syntax_printing.specs.Fine.{IsFine, AreFine, IsFineMaybe, IsFineType, IsFineDeclarator, AreFineParams, IsParameterList}
 use Rattle.c_syntax.proofs.BackTokens.{kinds, headed, mark, word, ends, begins, BackOf, ends_at, begins_at, two, ap_three, as_casting, chained_up, from_level, as_choosing, as_assigning, as_expression, suffixed_by, begins_suffixes, begins_lengthens}
 use Rattle.c_syntax_printing.proofs.Depths.{both, deeper}
+use Rattle.c_syntax_printing.proofs.PrefixFails.{tall}
 use Rattle.c_syntax_printing.proofs.BackParts.{back_name, back_spec, has_no_name, is_there, are_some_too, Back, Direct, BackDeclarator, declares_of, lengthened_by, there_if}
 
 abbrev pub own : Bool → Level
@@ -44,10 +45,6 @@ is_access : (o : Access) (t : Token) → t.kind ≡ access_kind o → IsAccess o
 is_access dot t q = record { kind = q }
 is_access arrow t q = record { kind = q }
 
-some_height : (e : Expr) → 1 ≤ height e
-some_height (a_name at n) = omega arith
-some_height e = omega arith
-
 some_declarator_height : (e : Declarator) → IsThere e → 1 ≤ height_of_declarator e
 some_declarator_height nothing h = absurd h
 some_declarator_height e h = omega arith
@@ -56,7 +53,7 @@ some_declarator_height e h = omega arith
 pub operand_back : (b : Bool) (d : ℕ) (e : Expr) (f : List TokenKind → List TokenKind) → ((x : ℕ) → height e ≤ suc x → (ts : List Token) (k : List TokenKind) → kinds ts ≡ f k → Back (own b) x e ts k) → height e ≤ d →
     (ts : List Token) (k : List TokenKind) → kinds ts ≡ wrapped b f k → Back postfix_level d e ts k
 operand_back true d e f rec v ts k q = rec d (omega arith) ts k q
-operand_back false zero e f rec v ts k q = absurd (omega (arith, some_height e))
+operand_back false zero e f rec v ts k q = absurd (omega (arith, tall e))
 operand_back false (suc d) e f rec v ts k q =
     let h = headed (Punct p.LEFT_PARENTHESIS) ts (f (Punct p.RIGHT_PARENTHESIS ∷ k)) q in
     let x = rec d v h.rest (Punct p.RIGHT_PARENTHESIS ∷ k) h.left in

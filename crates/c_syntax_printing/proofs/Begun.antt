@@ -16,7 +16,7 @@ use Rattle.c_syntax.proofs.BackTokens.{as_expression}
 use Rattle.c_syntax_printing.specs.Opens.{Filled}
 use Rattle.c_syntax_printing.proofs.Fills.{name_unary, name_token, punctuator, word}
 
-unary_of : (code : ℕ) → 10 ≤ code → code ≤ 15 → IsUnary code
+pub unary_of : (code : ℕ) → 10 ≤ code → code ≤ 15 → IsUnary code
 unary_of (suc (suc (suc (suc (suc (suc (suc (suc (suc (suc zero)))))))))) l g = takes_address
 unary_of (suc (suc (suc (suc (suc (suc (suc (suc (suc (suc (suc zero))))))))))) l g = indirects
 unary_of (suc (suc (suc (suc (suc (suc (suc (suc (suc (suc (suc (suc zero)))))))))))) l g = keeps_sign

@@ -6,11 +6,11 @@ use Rattle.c_lexer.specs.declared.keyword.TheConstants.{CASE, DEFAULT, DO, ELSE,
 use Rattle.c_syntax.specs.Tree.{Expr, Maybe, absent, there, First, first_absent, first_expr, first_decl, Labels, no_labels, case_label, default_label, Stmt, only_if, if_else, while_loop, do_loop, for_loop, switch_on, Stmts, no_stmts, more_stmts, no_groups, more_groups, evaluate, break_off, continue_on, return_from}
 use Rattle.c_syntax.specs.Tokens.{Is, IsKeyword}
 use Rattle.c_syntax.specs.Grammar.{conditional_level, expression_level, Reads, no_comma}
-use Rattle.c_syntax.specs.Statements.{ReadsMaybe, no_expression_stands, an_expression_stands, ReadsFirst, first_nothing, first_expression, first_declaration, ReadsLabels, last_case, last_default, next_case, next_default, IsClosed, an_evaluation, a_break, a_continue, a_return}
+use Rattle.c_syntax.specs.Statements.{ReadsMaybe, no_expression_stands, an_expression_stands, ReadsFirst, first_nothing, first_expression, first_declaration, ReadsLabels, last_case, next_case, next_default, IsClosed, an_evaluation, a_break, a_continue, a_return}
 use Rattle.c_syntax.specs.Statements.{ReadsStmt, an_empty, an_if, an_if_else, a_while, a_do, a_for, a_switch, ReadsStmts, last_stmt, next_stmt, no_group, a_group}
 use Rattle.c_syntax_printing.proofs.FrameStatements.{stmt_on, first_on, maybe_on, labels_on, stmts_on}
 use Rattle.c_syntax_printing.proofs.MorePairs.{wide}
-use Rattle.c_syntax_printing.proofs.MorePairsOfUnits.{wide_stmt, wide_decl}
+use Rattle.c_syntax_printing.proofs.MorePairsOfUnits.{wide_stmt, wide_maybe, wide_first, wide_labels, wide_stmts}
 use Rattle.c_syntax_printing.specs.Nodes.{in_if, in_else, in_while, in_do, in_do_test, in_for_first, in_for_test, in_for_step, in_for, in_switch_test, in_switch, in_there, in_first_expression, in_first_declaration, in_case, after_case, after_default, in_first_stmt, in_later_stmt, in_group_labels, in_group_stmts, in_later_group, stmt_here, expr_here}
 use Rattle.c_syntax_printing.specs.Opens.{Opens, DeepExpr, DeepDecl, DeepStmt}
 use Rattle.c_syntax_printing.specs.Deep.{DeepLabels, DeepStmts, DeepGroups}
@@ -85,15 +85,6 @@ for_decl_opens w h v =
       };
     })))
 
-wide_maybe : {d x : ℕ} {e : Maybe} {i j : List Token} → ReadsMaybe d e i j → d ≤ x → ReadsMaybe x e i j
-wide_maybe no_expression_stands l = no_expression_stands
-wide_maybe (an_expression_stands r) l = an_expression_stands (wide r l)
-
-wide_first : {d x : ℕ} {f : First} {i j : List Token} → ReadsFirst d f i j → d ≤ x → ReadsFirst x f i j
-wide_first (first_nothing h) l = first_nothing h
-wide_first (first_expression r c) l = first_expression (wide r l) c
-wide_first (first_declaration r p) l = first_declaration (wide_decl r l) p
-
 pub for_test_opens : {at p n d : ℕ} {f : First} {t o : Token} {i j r : List Token} → d ≤ suc p → IsKeyword FOR t → Is LEFT_PARENTHESIS o → ReadsFirst d f i j → Opens (DeepExpr at p n expression_level) j r → Opens (DeepStmt at p (suc n)) (t ∷ o ∷ i) r
 for_test_opens {f = f} g w h x v =
     opens_token (opens_token (opens_past (first_on (wide_first x g)) (opens_before v (λ m. record {
@@ -162,16 +153,6 @@ group_labels_open v =
       tokens = semicolon ∷ m;
       reads = λ k y. record { trees = more_groups y.trees _ no_groups; reads = a_group y.reads (last_stmt (an_empty (record { kind = refl }))) no_group; deep = either in_group_labels (λ z. inl z) y.deep };
     })
-
-wide_labels : {d x : ℕ} {ls : Labels} {i j : List Token} → ReadsLabels d ls i j → d ≤ x → ReadsLabels x ls i j
-wide_labels (last_case w r c) l = last_case w (wide r l) c
-wide_labels (last_default w c) l = last_default w c
-wide_labels (next_case w r c y) l = next_case w (wide r l) c (wide_labels y l)
-wide_labels (next_default w c y) l = next_default w c (wide_labels y l)
-
-wide_stmts : {d x : ℕ} {ss : Stmts} {i j : List Token} → ReadsStmts d ss i j → d ≤ x → ReadsStmts x ss i j
-wide_stmts (last_stmt r) l = last_stmt (wide_stmt r l)
-wide_stmts (next_stmt r w) l = next_stmt (wide_stmt r l) (wide_stmts w l)
 
 pub group_stmts_open : {at p n d : ℕ} {ls : Labels} {i j r : List Token} → d ≤ suc p → ReadsLabels d ls i j → Opens (DeepStmts at p n) j r → Opens (DeepGroups at p n) i r
 group_stmts_open {ls = ls} g x v =

@@ -8,12 +8,10 @@ use Rattle.c_syntax.specs.Statements.{ReadsMaybeInit, no_initialiser, an_initial
 use Rattle.c_syntax.specs.Limits.{height_of_maybe_init, height_of_parts, height_of_decl}
 use Rattle.c_syntax_printing.specs.Ranks.{rank}
 use Rattle.c_syntax_printing.proofs.Ranks.{ranked, apart}
-use Rattle.c_syntax_printing.specs.Starts.{EndsSpec}
 use Rattle.c_syntax_printing.proofs.Ends.{started}
-use Rattle.c_syntax_printing.proofs.Begins.{named_ends_spec}
 use Rattle.c_syntax_printing.specs.Heads.{head}
 use Rattle.c_syntax_printing.proofs.Heads.{no_storage_at}
-use Rattle.c_syntax_printing.proofs.OneDecl.{plain_head, maybe_init_ends, maybe_init_at, moved_spec}
+use Rattle.c_syntax_printing.proofs.OneDecl.{plain_head, maybe_init_ends, maybe_init_at, moved_spec, parts_end_spec}
 use Rattle.c_syntax_printing.specs.Fails.{Fails, Then, then, first, second, one, NotAt}
 use Rattle.c_syntax_printing.specs.Phrases.{Bound, Fits, ASpec, ADeclarator, AnInit, APlainDecl}
 use Rattle.c_syntax_printing.specs.Declarations.{PartsTail, last_stands, more_stand, SomeParts, PartsEnd}
@@ -30,10 +28,6 @@ parts_reads b (next_part e n v c r) h f =
     then
     (record { depth = _; tree = _; reads = e; named = n; ends = maybe_init_at v c; fits = fits_under b f (omega arith) })
     (more_stand v c r h (fits_under b f (omega arith)))
-
-pub parts_end_spec : {d : ℕ} {ps : Parts} {i j : List Token} → ReadsParts d ps i j → EndsSpec i
-parts_end_spec (last_part e n v) = named_ends_spec e n
-parts_end_spec (next_part e n v c r) = named_ends_spec e n
 
 decl_reads : (b : Bound) {d : ℕ} {x : Decl} {i j : List Token} → head i ≡ 2 → ReadsDecl d x i j → Fits b d (height_of_decl x) → Then ASpec (SomeParts b) i j
 decl_reads b q (a_declaration p st s ps h) f =

@@ -21,7 +21,7 @@ use Rattle.c_syntax_printing.proofs.Fixed.{placeless}
 
 -- what is deep is there
 
-lengthens_there : {d q : ℕ} {a e : Declarator} {i j : List Token} → Lengthens d q a e i j → IsThere a → IsThere e
+pub lengthens_there : {d q : ℕ} {a e : Declarator} {i j : List Token} → Lengthens d q a e i j → IsThere a → IsThere e
 lengthens_there no_more h = h
 lengthens_there (an_array o s c w) h = lengthens_there w tt
 lengthens_there (a_function o s c w) h = lengthens_there w tt

@@ -3,21 +3,21 @@ use Rattle.std.proofs.Common.{◌≡◌, ◌⊎◌, inl, inr, ◌≤◌, suc, Li
 use Rattle.c_lexer.specs.declared.token.Token.{Token}
 use Rattle.c_lexer.specs.declared.punctuator.TheConstants.{LEFT_BRACKET, RIGHT_BRACKET, LEFT_PARENTHESIS, RIGHT_PARENTHESIS, ASTERISK, COMMA}
 use Rattle.c_syntax.specs.Specifiers.{ReadsSpec}
-use Rattle.c_syntax.specs.Tree.{Spec, Ident, Maybe, Declarator, nothing, named, array, function, Params, TypeName}
+use Rattle.c_syntax.specs.Tree.{Spec, Ident, Maybe, Declarator, nothing, named, Params, TypeName}
 use Rattle.c_syntax.specs.Tokens.{Is, place}
 use Rattle.c_syntax.specs.Grammar.{conditional_level, IsThere, HasName, HasNoName, ReadsSize, no_size, a_size, ReadsType, a_type}
 use Rattle.c_syntax.specs.Grammar.{Declares, a_pointer, a_direct, ReadsCore, a_declared, declarator_in_parentheses, no_core, Lengthens, no_more, an_array, a_function, are_none, are_some, ReadsEach, last_param, next_param}
 use Rattle.c_syntax.specs.Limits.{height_of_declarator, height_of_params, height_of_type, height_of_maybe}
 use Rattle.c_syntax_printing.specs.Twins.{here, along, On}
 use Rattle.c_syntax_printing.proofs.Twins.{after, glue}
-use Rattle.c_syntax_printing.proofs.Ranks.{ranked, heads, apart}
+use Rattle.c_syntax_printing.proofs.Ranks.{ranked, apart}
 use Rattle.c_syntax_printing.specs.Starts.{start, EndsDeclarator}
 use Rattle.c_syntax_printing.proofs.Ends.{started, started_name, parenthesis_ends_declarator, comma_ends_declarator}
 use Rattle.c_syntax_printing.proofs.Begins.{lengthens_begin, lengthens_inside, direct_begins, declares_ends_spec, there_begins, nothing_stands}
 use Rattle.c_syntax_printing.proofs.FrameGrammar.{declares_on, lengthens_on}
 use Rattle.c_syntax_printing.proofs.Only.{OnlyCore}
-use Rattle.c_syntax_printing.proofs.OneDeclarator.{only_declared, only_brackets, bracket_closes, parenthesis_closes}
-use Rattle.c_syntax_printing.proofs.One.{same_declarator, only_sizes, only_params, only_declarator}
+use Rattle.c_syntax_printing.proofs.OneDeclarator.{moved_lengthens, only_declared, only_brackets}
+use Rattle.c_syntax_printing.proofs.One.{same_declarator, lengthens_pass, only_declarator}
 use Rattle.c_syntax_printing.specs.Fails.{Meets, at_end, at_token, Fails, Then, then, first, second, one, NotAt}
 use Rattle.c_syntax_printing.specs.Phrases.{Bound, within, Fits, inner, ASpec, ADeclarator, AnExpr, Punctuator}
 use Rattle.c_syntax_printing.specs.Operands.{AType, Past}
@@ -175,21 +175,6 @@ core_on no_core k = record { tokens = k; twin = here; reads = no_core }
 
 -- array sizes and parameters (6.7.5.2, 6.7.5.3)
 
-rooted : {x at it : ℕ} {a b f : Declarator} {i j k : List Token} → at ≡ it → a ≡ b → i ≡ j → Lengthens x it b f j k → Lengthens x at a f i k
-rooted o p q r = rw (o, p, q) r
-
--- the whole goes on from where a part of them ends
-lengthens_pass : {d x at : ℕ} {a e f : Declarator} {i j k : List Token} → Lengthens d at a e i j → Lengthens x at a f i k → EndsDeclarator k → Lengthens x at e f j k
-lengthens_pass no_more w z = w
-lengthens_pass (an_array o s c v) no_more z = absurd (omega (arith, started o))
-lengthens_pass {at = at} {a = a} (an_array o s c v) (an_array q r p w) z =
-    let u = (only_sizes s (bracket_closes _ c)).is _ _ _ r (bracket_closes _ p) in lengthens_pass v (rooted refl (ap (λ y. array at a y) u.0) (heads u.1).1 w) z
-lengthens_pass (an_array o s c v) (a_function q r p w) z = absurd (omega (arith, apart o q))
-lengthens_pass (a_function o s c v) no_more z = absurd (omega (arith, started o))
-lengthens_pass (a_function o s c v) (an_array q r p w) z = absurd (omega (arith, apart o q))
-lengthens_pass {at = at} {a = a} (a_function o s c v) (a_function q r p w) z =
-    let u = (only_params s (parenthesis_closes _ c)).is _ _ _ r (parenthesis_closes _ p) in lengthens_pass v (rooted refl (ap (λ y. function at a y) u.0) (heads u.1).1 w) z
-
 pub place_alike : {i k : List Token} → Meets i k → place i ≡ place k
 place_alike at_end = refl
 place_alike at_token = refl
@@ -217,7 +202,7 @@ core_start no_core h q = absurd h
 
 lengthened_passes : {d x : ℕ} {e f : Declarator} {i j k : List Token} → Lengthened d e i j → Declares x f i k → EndsDeclarator k → (at : ℕ) × Lengthens x at e f j k
 lengthened_passes a (a_pointer o q r) z = absurd (core_start a.core a.stands (started o))
-lengthened_passes a (a_direct p c l) z = let u = (only_there a.core a.stands).is _ _ _ _ _ _ c l z in (a.at, lengthens_pass a.lengthens (rooted (a.begins ∙ sym p) u.0 u.1 l) z)
+lengthened_passes a (a_direct p c l) z = let u = (only_there a.core a.stands).is _ _ _ _ _ _ c l z in (a.at, (lengthens_pass a.lengthens).is _ _ _ (moved_lengthens (a.begins ∙ sym p) u.0 u.1 l) z)
 
 -- what follows fails
 pub lengthened_fails : {N : Declarator → Type 0} {b : Bound} {d : ℕ} {e : Declarator} {i j r : List Token} → Lengthened d e i j → Fails (SomeLengthens b) j r → Fails (ADeclared N b) i r
@@ -281,7 +266,7 @@ bare_on n p a k m =
     }
 
 bare_passes : {d x : ℕ} {e f : Declarator} {i j k : List Token} → NoCore i → Bare d e i j → Declares x f i k → EndsDeclarator k → (at : ℕ) × Lengthens x at e f j k
-bare_passes n a r z = let w = bare_reads n r in (a.at, lengthens_pass a.lengthens (rooted (a.begins ∙ sym w.1) refl refl w.2) z)
+bare_passes n a r z = let w = bare_reads n r in (a.at, (lengthens_pass a.lengthens).is _ _ _ (moved_lengthens (a.begins ∙ sym w.1) refl refl w.2) z)
 
 -- what follows fails
 pub bare_later_fails : {N : Declarator → Type 0} {b : Bound} {d : ℕ} {e : Declarator} {i j r : List Token} → NoCore i → Past i j → Bare d e i j → Fails (SomeLengthens b) j r → Fails (ADeclared N b) i r

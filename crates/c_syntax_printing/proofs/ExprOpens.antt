@@ -17,15 +17,11 @@ use Rattle.c_syntax_printing.specs.Nodes.{InExpr, expr_here, in_comma, in_sizeof
 use Rattle.c_syntax_printing.specs.Pairs.{PairInChain}
 use Rattle.c_syntax_printing.specs.Opens.{Opens, DeepExpr, DeepExprs, DeepType, Filled, DeepSuffixes}
 use Rattle.c_syntax_printing.proofs.Combine.{climb}
-use Rattle.c_syntax_printing.proofs.SuffixFails.{rooted}
-use Rattle.c_syntax_printing.proofs.LevelFails.{rooted_chain}
+use Rattle.c_syntax_printing.proofs.OneOperand.{moved_suffixes}
+use Rattle.c_syntax_printing.proofs.OneChain.{moved_chain}
 use Rattle.c_syntax_printing.proofs.Opening.{opens_as, opens_under, opens_here, opens_past, opens_before, opens_token}
 use Rattle.c_syntax_printing.proofs.Fills.{name_unary, name_token, punctuator, word, name_chain, name_chooses, name_reads}
-
--- either holds, and what follows from it
-pub either : {A B C D : Type 0} → (A → C) → (B → D) → A ⊎ B → C ⊎ D
-either f g (inl a) = inl (f a)
-either f g (inr b) = inr (g b)
+pub use Rattle.std.proofs.Math.Logic.{⊎_map as either}
 
 abbrev pub close_paren : Token
 close_paren = punctuator RIGHT_PARENTHESIS (omega arith)
@@ -162,7 +158,7 @@ suffixes_grow (a_postfix h v) w = let y = suffixes_grow v w in record { tree = y
 
 suffixed_deep : {at p n q : ℕ} {a : Expr} {i j k : List Token} → Reads (suc p) postfix_level a i j → q ≡ place i → DeepSuffixes at p n q a j k → DeepExpr at p n postfix_level i k
 suffixed_deep (with_suffixes u r c) b w =
-    let y = suffixes_grow (rooted (b ∙ sym u) refl refl c) w in
+    let y = suffixes_grow (moved_suffixes (b ∙ sym u) refl refl c) w in
     record { tree = y.tree; reads = with_suffixes b r y.reads; deep = either (λ x. x) (λ z. inr z) y.deep }
 
 -- what follows an operand with its suffixes so far
@@ -211,7 +207,7 @@ chain_grow (an_operator h c r v) w = let y = chain_grow v w in record { tree = y
 
 chained_deep : {at p n l q : ℕ} {a : Expr} {i j k : List Token} → Reads (suc p) (binary_level (suc l)) a i j → q ≡ place i → DeepChain at p n l q a j k → DeepExpr at p n (binary_level (suc l)) i k
 chained_deep (a_chain u r c) b w =
-    let y = chain_grow (rooted_chain (b ∙ sym u) refl refl c) w in
+    let y = chain_grow (moved_chain (b ∙ sym u) refl refl c) w in
     record { tree = y.tree; reads = a_chain b r y.reads; deep = either (λ x. x) (λ z. inr z) y.deep }
 
 chain_opens : {at p n d l : ℕ} {a : Expr} {i j r : List Token} → d ≤ suc p → Reads d (binary_level (suc l)) a i j → Opens (DeepChain at p n l (place i) a) j r → Opens (DeepExpr at p n (binary_level (suc l))) i r

@@ -22,7 +22,7 @@ use Rattle.c_syntax_printing.proofs.Heads.{headed, worded, name_head, spec_head,
 use Rattle.c_syntax_printing.proofs.FrameSpecifiers.{storage_on}
 use Rattle.c_syntax_printing.proofs.FrameStatements.{declarators_on, item_on}
 use Rattle.c_syntax_printing.proofs.One.{same_storage, spec_ends_storage}
-use Rattle.c_syntax_printing.proofs.OneDecl.{Leads, decl_leads, moved_spec}
+use Rattle.c_syntax_printing.proofs.OneDecl.{Leads, decl_leads, moved_spec, parts_end_spec}
 use Rattle.c_syntax_printing.specs.Fails.{Meets, at_end, at_token, Fails, Then, then, first, second, One, one, NotAt}
 use Rattle.c_syntax_printing.specs.Phrases.{Bound, Fits, inner, ADeclarator, AnExpr, InBlock, in_block, Punctuator}
 use Rattle.c_syntax_printing.specs.Operands.{IsSomeName}
@@ -34,7 +34,7 @@ use Rattle.c_syntax_printing.proofs.Combine.{Fixes, on_as, at_same, at_first, ot
 use Rattle.c_syntax_printing.proofs.Fixed.{start_alike, spec_fixes, declarator_fixes}
 use Rattle.c_syntax_printing.proofs.StmtForms.{fits_part}
 use Rattle.c_syntax_printing.proofs.BlockForms.{fits_under}
-use Rattle.c_syntax_printing.proofs.DeclForms.{parts_reads, parts_end_spec}
+use Rattle.c_syntax_printing.proofs.DeclForms.{parts_reads}
 use Rattle.c_syntax_printing.proofs.Fills.{name_token}
 use Rattle.c_syntax_printing.proofs.SpecFails.{struct_tail, enum_tail, other_word}
 use Rattle.c_syntax_printing.proofs.OneUnit.{same_tag, struct_leads, same_declarators, semicolon_ends, declarators_end_spec, enum_leads, same_item, defines}

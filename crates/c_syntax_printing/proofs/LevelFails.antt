@@ -2,19 +2,19 @@
 use Rattle.std.proofs.Common.{◌≡◌, ◌≤◌, zero, suc, ◌-◌, List, ◌∷◌, refl, sym, ap, ◌∙◌, subst, arith, ℕ}
 use Rattle.c_lexer.specs.declared.token.Token.{Token}
 use Rattle.c_lexer.specs.declared.punctuator.TheConstants.{LEFT_PARENTHESIS, QUESTION, COMMA}
-use Rattle.c_syntax.specs.Tree.{Infix, Expr, Exprs, binary}
+use Rattle.c_syntax.specs.Tree.{Infix, Expr, Exprs}
 use Rattle.c_syntax.specs.Tokens.{Is, IsInfix, code_of_infix, IsAssignment}
 use Rattle.c_syntax.specs.Grammar.{Level, unary_level, cast_level, binary_level, conditional_level, assignment_level, expression_level}
 use Rattle.c_syntax.specs.Grammar.{Reads, no_cast, no_chain, a_chain, no_choice, a_choice, no_assignment, an_assignment, no_comma, a_comma, Chain, no_operator, an_operator, ReadsList, last_expr, next_expr}
 use Rattle.c_syntax.specs.Limits.{height, height_of_exprs}
 use Rattle.c_syntax_printing.specs.Ranks.{rank, Stops}
 use Rattle.c_syntax_printing.proofs.Precedence.{assignment_rank}
-use Rattle.c_syntax_printing.proofs.Ranks.{ranked, ranked_infix, heads, ranks, one_infix}
+use Rattle.c_syntax_printing.proofs.Ranks.{ranked, ranked_infix, heads, ranks}
 use Rattle.c_syntax_printing.proofs.Begins.{prefixed_inside}
 use Rattle.c_syntax_printing.specs.Starts.{start}
 use Rattle.c_syntax_printing.specs.Twins.{Twin}
-use Rattle.c_syntax_printing.proofs.OneChain.{chain_stops}
-use Rattle.c_syntax_printing.proofs.One.{same}
+use Rattle.c_syntax_printing.proofs.OneChain.{chain_stops, stops_before, moved_chain}
+use Rattle.c_syntax_printing.proofs.One.{same, chain_passes}
 use Rattle.c_syntax_printing.specs.Fails.{Meets, at_token, Fails, Then, then, first, second, One, one}
 use Rattle.c_syntax_printing.specs.Phrases.{Bound, any, within, Fits, fits_any, inner, AnExpr}
 use Rattle.c_syntax_printing.specs.Operands.{SomeExprs, SomeChain, no_choice_stands, ChoiceTail, ChoiceRest, no_comma_stands, ExprsRest}
@@ -50,43 +50,25 @@ operand_reads b h k (an_operator g c r w) s f = then (an_expr r (chain_stops w s
 pub chain_goes : (b : Bound) (n : ℕ) {o : Infix} {t : Token} {i r : List Token} → IsInfix o (suc n) → Is (code_of_infix o) t → Fails (Then (AnExpr (inner b) (binary_level n)) (SomeChain b n)) i r → Fails (SomeChain b n) (t ∷ i) r
 chain_goes b n h k f = fails_under (λ l j a. operand_reads b h k a.reads a.stops a.fits) f
 
-stops_before : (n : ℕ) {d at : ℕ} {a e : Expr} {i j : List Token} → Chain d n at a e i j → Stops (binary_level n) j → Stops (binary_level n) i
-stops_before n no_operator s = s
-stops_before n (an_operator {o = o} h k r w) s = omega (arith, ranked_infix n o h k)
-
 -- what is read of a chain leads on
 chain_leads : (b : Bound) (n : ℕ) {d at : ℕ} {a e : Expr} {i j r : List Token} → Chain d n at a e i j → Stops (binary_level n) j → Fails (SomeChain b n) j r → Fails (SomeChain b n) i r
 chain_leads b n no_operator s f = f
 chain_leads b n (an_operator h k r w) s f =
     chain_goes b n h k
-    (fails_later (expr_fixes _ (inner b) (binary_level n)) (record { depth = _; tree = _; reads = r; stops = stops_before n w s; fits = fits_any }) (chain_leads b n w s f))
+    (fails_later (expr_fixes _ (inner b) (binary_level n)) (record { depth = _; tree = _; reads = r; stops = stops_before w s; fits = fits_any }) (chain_leads b n w s f))
 
 -- what is read of an expression of the level n + 1 stands, and no operator of it or what follows one fails
 pub chain_fails : (b : Bound) (n : ℕ) {d : ℕ} {e : Expr} {i j r : List Token} → Reads d (binary_level (suc n)) e i j → Stops (binary_level n) j → Fails (SomeChain b n) j r → Fails (AnExpr b (binary_level (suc n))) i r
-chain_fails b n (a_chain p q c) s f = operators_fail b any n (record { depth = _; tree = _; reads = q; stops = stops_before n c s; fits = fits_any }) (chain_leads b n c s f)
-
--- the whole goes on from where a part of a chain ends
-chain_passes : (n : ℕ) {d x at : ℕ} {a e f : Expr} {i j k : List Token} → Chain d n at a e i j → Stops (binary_level n) j → (Stops (binary_level (suc n)) j → ⊥) → Chain x n at a f i k → Stops (binary_level (suc n)) k → Chain x n at e f j k
-chain_passes n no_operator s o w z = w
-chain_passes n (an_operator {o = p} h k r w) s o no_operator z = absurd (omega (arith, ranked_infix n p h k, z))
-chain_passes n {at = at} {a = a} (an_operator {o = p} h k r w) s o (an_operator {o = q} g c v y) z =
-    let u = same r v (stops_before n w s) (chain_stops y z) in
-    chain_passes n w s o (moved_chain (one_infix n p q h g k c) u.0 u.1 y) z
-  where
-    moved_chain : {x at : ℕ} {p q : Infix} {a b c f : Expr} {i j k : List Token} → p ≡ q → b ≡ c → i ≡ j → Chain x n at (binary at q a c) f j k → Chain x n at (binary at p a b) f i k
-    moved_chain o p q r = rw (o, p, q) r
+chain_fails b n (a_chain p q c) s f = operators_fail b any n (record { depth = _; tree = _; reads = q; stops = stops_before c s; fits = fits_any }) (chain_leads b n c s f)
 
 operator_rises : (n : ℕ) {x at : ℕ} {a f : Expr} {o : Infix} {t : Token} {j k : List Token} → IsInfix o (suc n) → Is (code_of_infix o) t → Chain x n at a f (t ∷ j) k → Stops (binary_level (suc n)) k → suc (height a) ≤ height f
 operator_rises n {o = o} h k no_operator z = absurd (omega (arith, ranked_infix n o h k, z))
 operator_rises n h k (an_operator g c r w) z = omega (arith, chain_rises w)
 
-pub rooted_chain : {x n at it : ℕ} {a b f : Expr} {i j k : List Token} → at ≡ it → a ≡ b → i ≡ j → Chain x n it b f j k → Chain x n at a f i k
-rooted_chain o p q r = rw (o, p, q) r
-
 chain_too_high : (n : ℕ) {d x : ℕ} {o : Infix} {e f : Expr} {t : Token} {i j k : List Token} → IsInfix o (suc n) → Is (code_of_infix o) t → Reads d (binary_level (suc n)) e i (t ∷ j) → Reads x (binary_level (suc n)) f i k → Stops (binary_level (suc n)) k → suc (height e) ≤ height f
 chain_too_high n {o = o} h c (a_chain p q w) (a_chain u v y) z =
-    let s = same q v (stops_before n w (omega (arith, ranked_infix n o h c))) (chain_stops y z) in
-    operator_rises n h c (chain_passes n w (omega (arith, ranked_infix n o h c)) (λ s. omega (arith, ranked_infix n o h c)) (rooted_chain (p ∙ sym u) s.0 s.1 y) z) z
+    let s = same q v (stops_before w (omega (arith, ranked_infix n o h c))) (chain_stops y z) in
+    operator_rises n h c ((chain_passes w (omega (arith, ranked_infix n o h c))).is _ _ _ (moved_chain (p ∙ sym u) s.0 s.1 y) z) z
 
 -- an operator between two operands: what follows it fails
 pub operator_fails : (b : Bound) (o : Infix) (l most : ℕ) {d : ℕ} {e : Expr} {t : Token} {i k r : List Token} → IsInfix o l → 1 ≤ l → l ≤ most → Is (code_of_infix o) t → Reads d (binary_level l) e i (t ∷ k) → Fails (Then (AnExpr (inner b) (binary_level (l - 1))) (SomeChain b (l - 1))) k r → Fails (AnExpr b (binary_level most)) i r

@@ -63,7 +63,6 @@ pub mod BackUnits
 pub mod FineLemmas
 pub mod FineUnitLemmas
 pub mod KindsAlike
-pub mod KindsOfUnits
 pub mod KindsPrinted
 pub mod LexBack
 pub mod LexBackElements

@@ -7,11 +7,11 @@ use Rattle.c_syntax.specs.Tree.{Ident, Spec, Declarator, Maybe, there, Declarato
 use Rattle.c_syntax.specs.Tokens.{Is, IsKeyword}
 use Rattle.c_syntax.specs.Specifiers.{Names, ReadsSpec}
 use Rattle.c_syntax.specs.Grammar.{conditional_level, HasName, Declares}
-use Rattle.c_syntax.specs.Statements.{ReadsDeclarators, last_declarator, next_declarator, last_member, next_member, ReadsEnumeratorValue, no_enumerator_value, an_enumerator_value, last_enumerator, next_enumerator, ReadsTag, a_struct, an_enum}
+use Rattle.c_syntax.specs.Statements.{ReadsDeclarators, last_declarator, next_declarator, last_member, next_member, ReadsEnumeratorValue, an_enumerator_value, last_enumerator, next_enumerator, ReadsTag, a_struct, an_enum}
 use Rattle.c_syntax_printing.proofs.FrameSpecifiers.{spec_on}
 use Rattle.c_syntax_printing.proofs.FrameGrammar.{declares_on}
 use Rattle.c_syntax_printing.proofs.FrameStatements.{declarators_on, enumerator_value_on, tag_on}
-use Rattle.c_syntax_printing.proofs.MorePairs.{wide, wide_declarator}
+use Rattle.c_syntax_printing.proofs.MorePairs.{wide_declarator}
 use Rattle.c_syntax_printing.specs.Nodes.{in_first_declarator, in_later_declarator, in_first_member, in_later_member, in_there, in_first_enumerator, in_later_enumerator, in_struct_item, in_enum_item}
 use Rattle.c_syntax_printing.specs.Opens.{Opens, DeepExpr, DeepDeclarator, DeepItem}
 use Rattle.c_syntax_printing.specs.Deep.{DeepDeclarators, DeepMembers, DeepEnumerators}
@@ -19,10 +19,7 @@ use Rattle.c_syntax_printing.proofs.Opening.{opens_as, opens_under, opens_past, 
 use Rattle.c_syntax_printing.proofs.ExprOpens.{either}
 use Rattle.c_syntax_printing.proofs.BodyOpens.{close_brace, semicolon}
 use Rattle.c_syntax_printing.proofs.Fixed.{placeless}
-
-wide_declarators : {d x : ℕ} {es : Declarators} {i j : List Token} → ReadsDeclarators d es i j → d ≤ x → ReadsDeclarators x es i j
-wide_declarators (last_declarator e n) l = last_declarator (wide_declarator e l) n
-wide_declarators (next_declarator e n c w) l = next_declarator (wide_declarator e l) n c (wide_declarators w l)
+use Rattle.c_syntax_printing.proofs.MorePairsOfUnits.{wide_declarators, wide_enumerator_value}
 
 pub first_declarator_opens : {at p n : ℕ} {i r : List Token} → Opens (DeepDeclarator HasName at p n) i r → Opens (DeepDeclarators at p n) i r
 first_declarator_opens o = opens_as (λ k m a. record { trees = more_declarators a.tree no_declarators; reads = last_declarator a.reads a.suits; deep = either in_first_declarator (λ y. y) a.deep }) o
@@ -54,13 +51,9 @@ pub enumerator_value_opens : {at p n : ℕ} {x : Ident} {t u : Token} {i r : Lis
 enumerator_value_opens {x = x} y h o =
     opens_token (opens_under (λ k m a. record { trees = more_enumerators x (there a.tree) no_enumerators; reads = last_enumerator y (an_enumerator_value h a.reads); deep = either (λ z. in_first_enumerator (in_there z)) (λ z. z) a.deep }) o)
 
-wide_value : {d x : ℕ} {e : Maybe} {i j : List Token} → ReadsEnumeratorValue d e i j → d ≤ x → ReadsEnumeratorValue x e i j
-wide_value no_enumerator_value l = no_enumerator_value
-wide_value (an_enumerator_value h r) l = an_enumerator_value h (wide r l)
-
 pub later_enumerator_opens : {at p n d : ℕ} {x : Ident} {e : Maybe} {t u : Token} {i j r : List Token} → d ≤ suc p → Names x t → ReadsEnumeratorValue d e i (u ∷ j) → Is COMMA u → Opens (DeepEnumerators at p n) j r → Opens (DeepEnumerators at p n) (t ∷ i) r
 later_enumerator_opens {x = x} {e = e} g y c h o =
-    opens_token (opens_past (enumerator_value_on (wide_value c g))
+    opens_token (opens_past (enumerator_value_on (wide_enumerator_value c g))
     (opens_under (λ k m v l b. record { trees = more_enumerators x e v.trees; reads = next_enumerator y b h v.reads; deep = either in_later_enumerator (λ z. inr z) v.deep }) o))
 
 pub enum_opens : {at p n : ℕ} {z : Tag} {t l : Token} {i j r : List Token} → IsKeyword ENUM t → ReadsTag z i (l ∷ j) → Is LEFT_BRACE l → Opens (DeepEnumerators at p n) j r → Opens (DeepItem at p n) (t ∷ i) r

@@ -20,7 +20,7 @@ mutual
   wide_inits (last_init r) w = last_init (wide_init r w)
   wide_inits (next_init r h f) w = next_init (wide_init r w) h (wide_inits f w)
 
-wide_maybe_init : {d x : ℕ} {v : MaybeInit} {i j : List Token} → ReadsMaybeInit d v i j → d ≤ x → ReadsMaybeInit x v i j
+pub wide_maybe_init : {d x : ℕ} {v : MaybeInit} {i j : List Token} → ReadsMaybeInit d v i j → d ≤ x → ReadsMaybeInit x v i j
 wide_maybe_init no_initialiser w = no_initialiser
 wide_maybe_init (an_initialiser h r) w = an_initialiser h (wide_init r w)
 
@@ -31,16 +31,16 @@ wide_parts (next_part e h v c f) w = next_part (wide_declarator e w) h (wide_may
 pub wide_decl : {d x : ℕ} {y : Decl} {i j : List Token} → ReadsDecl d y i j → d ≤ x → ReadsDecl x y i j
 wide_decl (a_declaration p g s r h) w = a_declaration p g s (wide_parts r w) h
 
-wide_maybe : {d x : ℕ} {e : Maybe} {i j : List Token} → ReadsMaybe d e i j → d ≤ x → ReadsMaybe x e i j
+pub wide_maybe : {d x : ℕ} {e : Maybe} {i j : List Token} → ReadsMaybe d e i j → d ≤ x → ReadsMaybe x e i j
 wide_maybe no_expression_stands w = no_expression_stands
 wide_maybe (an_expression_stands r) w = an_expression_stands (wide r w)
 
-wide_first : {d x : ℕ} {f : First} {i j : List Token} → ReadsFirst d f i j → d ≤ x → ReadsFirst x f i j
+pub wide_first : {d x : ℕ} {f : First} {i j : List Token} → ReadsFirst d f i j → d ≤ x → ReadsFirst x f i j
 wide_first (first_nothing h) w = first_nothing h
 wide_first (first_expression r h) w = first_expression (wide r w) h
 wide_first (first_declaration r h) w = first_declaration (wide_decl r w) h
 
-wide_labels : {d x : ℕ} {ls : Labels} {i j : List Token} → ReadsLabels d ls i j → d ≤ x → ReadsLabels x ls i j
+pub wide_labels : {d x : ℕ} {ls : Labels} {i j : List Token} → ReadsLabels d ls i j → d ≤ x → ReadsLabels x ls i j
 wide_labels (last_case h r c) w = last_case h (wide r w) c
 wide_labels (last_default h c) w = last_default h c
 wide_labels (next_case h r c f) w = next_case h (wide r w) c (wide_labels f w)
@@ -66,7 +66,7 @@ mutual
   wide_block_items (a_block_decl r h f) w = a_block_decl (wide_decl r w) h (wide_block_items f w)
   wide_block_items (a_block_stmt r f) w = a_block_stmt (wide_stmt r w) (wide_block_items f w)
 
-  wide_stmts : {d x : ℕ} {s : Stmts} {i j : List Token} → ReadsStmts d s i j → d ≤ x → ReadsStmts x s i j
+  pub wide_stmts : {d x : ℕ} {s : Stmts} {i j : List Token} → ReadsStmts d s i j → d ≤ x → ReadsStmts x s i j
   wide_stmts (last_stmt r) w = last_stmt (wide_stmt r w)
   wide_stmts (next_stmt r f) w = next_stmt (wide_stmt r w) (wide_stmts f w)
 
@@ -74,7 +74,7 @@ mutual
   wide_groups no_group w = no_group
   wide_groups (a_group l r f) w = a_group (wide_labels l w) (wide_stmts r w) (wide_groups f w)
 
-wide_declarators : {d x : ℕ} {es : Declarators} {i j : List Token} → ReadsDeclarators d es i j → d ≤ x → ReadsDeclarators x es i j
+pub wide_declarators : {d x : ℕ} {es : Declarators} {i j : List Token} → ReadsDeclarators d es i j → d ≤ x → ReadsDeclarators x es i j
 wide_declarators (last_declarator e h) w = last_declarator (wide_declarator e w) h
 wide_declarators (next_declarator e h c f) w = next_declarator (wide_declarator e w) h c (wide_declarators f w)
 
@@ -82,7 +82,7 @@ wide_members : {d x : ℕ} {ms : Members} {i j : List Token} → ReadsMembers d 
 wide_members (last_member p s e h) w = last_member p s (wide_declarators e w) h
 wide_members (next_member p s e h f) w = next_member p s (wide_declarators e w) h (wide_members f w)
 
-wide_enumerator_value : {d x : ℕ} {e : Maybe} {i j : List Token} → ReadsEnumeratorValue d e i j → d ≤ x → ReadsEnumeratorValue x e i j
+pub wide_enumerator_value : {d x : ℕ} {e : Maybe} {i j : List Token} → ReadsEnumeratorValue d e i j → d ≤ x → ReadsEnumeratorValue x e i j
 wide_enumerator_value no_enumerator_value w = no_enumerator_value
 wide_enumerator_value (an_enumerator_value h r) w = an_enumerator_value h (wide r w)
 

@@ -1,11 +1,11 @@
 -- No tokens spell two expressions, type names, declarators or lists of parameters.
-use Rattle.std.proofs.Common.{◌≡◌, ℕ, suc, List, arith}
+use Rattle.std.proofs.Common.{◌≡◌, ℕ, List, arith}
 use Rattle.c_lexer.specs.declared.token.Token.{Token}
 use Rattle.c_syntax_printing.proofs.Begins.{list_begins, declares_ends_spec, direct_begins, suffixed_begins}
 use Rattle.c_syntax_printing.specs.Ranks.{Stops}
 use Rattle.c_syntax_printing.proofs.Precedence.{assignment_rank}
 use Rattle.c_syntax.specs.Tree.{Expr, Exprs, Maybe, TypeName, Declarator, Params}
-use Rattle.c_syntax.specs.Grammar.{Level, postfix_level, binary_level, expression_level}
+use Rattle.c_syntax.specs.Grammar.{Level, binary_level, expression_level}
 use Rattle.c_syntax.specs.Grammar.{Reads, is_name, is_int, is_char, are_strings, in_parentheses, with_suffixes, no_prefix, a_prefix, a_unary, a_sizeof_type, no_cast, a_cast, no_chain, a_chain}
 use Rattle.c_syntax.specs.Grammar.{no_choice, a_choice, no_assignment, an_assignment, no_comma, a_comma, ReadsList, last_expr, next_expr}
 use Rattle.c_syntax.specs.Grammar.{Suffixes, no_suffix, an_index, an_empty_call, a_call, a_member, a_postfix, Chain, no_operator, an_operator, ReadsSize, no_size, a_size, ReadsType, a_type}
@@ -13,11 +13,11 @@ use Rattle.c_syntax.specs.Grammar.{Declares, a_pointer, a_direct, ReadsCore, a_d
 use Rattle.c_syntax_printing.proofs.Ranks.{ranked}
 use Rattle.c_syntax_printing.specs.Starts.{EndsDeclarator}
 use Rattle.c_syntax_printing.proofs.Ends.{parenthesis_ends_declarator, comma_ends_declarator}
-use Rattle.c_syntax_printing.proofs.Only.{Closes, Only, OnlyList, OnlySuffixes, OnlyChain, OnlySize, OnlyType, OnlyDeclarator, OnlyCore, OnlyLengthens, OnlyParams, OnlyEach}
-use Rattle.c_syntax_printing.proofs.OneOperand.{at_name, at_int, at_char, at_strings, at_parentheses, suffix_stops, at_suffixed, at_no_suffix, at_index, at_empty_call, at_call, at_member, at_postfix}
+use Rattle.c_syntax_printing.proofs.Only.{Closes, Only, OnlyList, PassesSuffixes, PassesChain, OnlySize, OnlyType, OnlyDeclarator, OnlyCore, PassesLengthens, OnlyParams, OnlyEach}
+use Rattle.c_syntax_printing.proofs.OneOperand.{at_name, at_int, at_char, at_strings, at_parentheses, suffix_stops, at_suffixed, at_index, at_empty_call, at_call, at_member, at_postfix}
 use Rattle.c_syntax_printing.proofs.OnePrefix.{at_no_prefix, only_prefix, at_unary, at_sizeof_type, at_no_cast, at_cast}
-use Rattle.c_syntax_printing.proofs.OneChain.{chain_stops, at_no_operator, at_operator, at_no_chain, at_chain, at_no_choice, at_choice, at_no_assignment, at_assignment, at_no_comma, at_comma, at_last, at_next}
-use Rattle.c_syntax_printing.proofs.OneDeclarator.{closed_end, bracket_closes, parenthesis_closes, at_no_size, at_size, at_type, at_pointer, at_direct, only_declared, only_brackets, at_no_core, at_no_more, at_array, at_function, at_none, at_some, at_last_param, at_next_param}
+use Rattle.c_syntax_printing.proofs.OneChain.{chain_stops, stops_before, at_operator, at_no_chain, at_chain, at_no_choice, at_choice, at_no_assignment, at_assignment, at_no_comma, at_comma, at_last, at_next}
+use Rattle.c_syntax_printing.proofs.OneDeclarator.{closed_end, bracket_closes, parenthesis_closes, at_no_size, at_size, at_type, at_pointer, at_direct, only_declared, only_brackets, at_no_core, at_array, at_function, at_none, at_some, at_last_param, at_next_param}
 pub use Rattle.c_syntax_printing.proofs.Begins.{named_ends_spec}
 pub use Rattle.c_syntax_printing.proofs.OneSpecifier.{same_storage, same_spec, spec_ends_storage}
 
@@ -28,7 +28,7 @@ mutual
   only (is_char h) s = record { is = λ x f k v z. at_char h v }
   only (are_strings p r) s = record { is = λ x f k v z. at_strings p r s v z }
   only (in_parentheses o r c) s = record { is = λ x f k v z. at_parentheses o (only r (omega (arith, ranked c))) v }
-  only (with_suffixes p r c) s = record { is = λ x f k v z. at_suffixed p (only r (suffix_stops c s)) (only_suffixes c s) v z }
+  only (with_suffixes p r c) s = record { is = λ x f k v z. at_suffixed p (only r (suffix_stops c s)) (suffixes_pass c) s v z }
   only (no_prefix r) s = record { is = λ x f k v z. at_no_prefix (suffixed_begins r).0 (only r s) v z }
   only (a_prefix h r) s = only_prefix h r (only r s)
   only (a_unary h u r) s = record { is = λ x f k v z. at_unary h u (only r s) v z }
@@ -36,7 +36,7 @@ mutual
   only (no_cast r) s = record { is = λ x f k v z. at_no_cast r (only r s) v z }
   only (a_cast o n c r) s = record { is = λ x f k v z. at_cast o n (only_name_of_type n (parenthesis_ends_declarator c)) (only r s) v z }
   only (no_chain r) s = record { is = λ x f k v z. at_no_chain (only r s) v z }
-  only (a_chain p r c) s = record { is = λ x f k v z. at_chain p (only r (chain_stops c s)) (only_operators c s) v z }
+  only (a_chain p r c) s = record { is = λ x f k v z. at_chain p (only r (chain_stops c s)) (chain_passes c (omega (arith, s))) s v z }
   only (no_choice r) s = record { is = λ x f k v z. at_no_choice s (only r (omega arith)) v z }
   only (a_choice p r q b c g) s = record { is = λ x f k v z. at_choice p q (only r (omega (arith, ranked q))) (only b (omega (arith, ranked c))) (only g s) v z }
   only (no_assignment r) s = record { is = λ x f k v z. at_no_assignment s (only r (omega arith)) v z }
@@ -48,17 +48,17 @@ mutual
   only_list (last_expr r) s = record { is = λ x f k v z. at_last s (only r (omega arith)) v z }
   only_list (next_expr r o b) s = record { is = λ x f k v z. at_next o (only r (omega (arith, ranked o))) (only_list b s) v z }
 
-  pub only_suffixes : {d at : ℕ} {a e : Expr} {j k : List Token} → Suffixes d at a e j k → Stops postfix_level k → OnlySuffixes at a e j k
-  only_suffixes no_suffix s = record { is = λ x f k v z. at_no_suffix s v }
-  only_suffixes (an_index o r c w) s = record { is = λ x f k v z. at_index o (only r (omega (arith, ranked c))) (only_suffixes w s) v z }
-  only_suffixes (an_empty_call o c w) s = record { is = λ x f k v z. at_empty_call o c (only_suffixes w s) v z }
-  only_suffixes (a_call o r c w) s = record { is = λ x f k v z. at_call o (list_begins r).0 (only_list r (omega (arith, ranked c))) (only_suffixes w s) v z }
-  only_suffixes (a_member h n w) s = record { is = λ x f k v z. at_member h n (only_suffixes w s) v z }
-  only_suffixes (a_postfix h w) s = record { is = λ x f k v z. at_postfix h (only_suffixes w s) v z }
+  pub suffixes_pass : {d at : ℕ} {a e : Expr} {j k : List Token} → Suffixes d at a e j k → PassesSuffixes at a e j k
+  suffixes_pass no_suffix = record { is = λ x f k v z. v }
+  suffixes_pass (an_index o r c w) = record { is = λ x f k v z. at_index o (only r (omega (arith, ranked c))) (suffixes_pass w) v z }
+  suffixes_pass (an_empty_call o c w) = record { is = λ x f k v z. at_empty_call o c (suffixes_pass w) v z }
+  suffixes_pass (a_call o r c w) = record { is = λ x f k v z. at_call o (list_begins r).0 (only_list r (omega (arith, ranked c))) (suffixes_pass w) v z }
+  suffixes_pass (a_member h n w) = record { is = λ x f k v z. at_member h n (suffixes_pass w) v z }
+  suffixes_pass (a_postfix h w) = record { is = λ x f k v z. at_postfix h (suffixes_pass w) v z }
 
-  pub only_operators : {d n at : ℕ} {a e : Expr} {j k : List Token} → Chain d n at a e j k → Stops (binary_level (suc n)) k → OnlyChain n at a e j k
-  only_operators no_operator s = record { is = λ x f k v z. at_no_operator s v }
-  only_operators (an_operator l h r c) s = record { is = λ x f k v z. at_operator l h (only r (chain_stops c s)) (only_operators c s) v z }
+  pub chain_passes : {d n at : ℕ} {a e : Expr} {j k : List Token} → Chain d n at a e j k → Stops (binary_level n) k → PassesChain n at a e j k
+  chain_passes no_operator s = record { is = λ x f k v z. v }
+  chain_passes (an_operator l h r c) s = record { is = λ x f k v z. at_operator l h (only r (stops_before c s)) (chain_passes c s) v z }
 
   pub only_sizes : {d : ℕ} {m : Maybe} {i j : List Token} → ReadsSize d m i j → Closes j → OnlySize m i j
   only_sizes no_size s = record { is = λ x f k v z. at_no_size s v }
@@ -69,17 +69,17 @@ mutual
 
   pub only_declarator : {d : ℕ} {e : Declarator} {i j : List Token} → Declares d e i j → EndsDeclarator j → OnlyDeclarator e i j
   only_declarator (a_pointer o c r) s = record { is = λ x f k v z. at_pointer o c (declares_ends_spec r s) (only_declarator r s) v z }
-  only_declarator (a_direct p c l) s = record { is = λ x f k v z. at_direct p (direct_begins c l s).1 (only_core c l s) (only_lengthens l s) v z }
+  only_declarator (a_direct p c l) s = record { is = λ x f k v z. at_direct p (direct_begins c l s).1 (only_core c l s) (lengthens_pass l) s v z }
 
   pub only_core : {d at : ℕ} {a e : Declarator} {i j k : List Token} → ReadsCore d a i j → Lengthens d at a e j k → EndsDeclarator k → OnlyCore a i j
   only_core (a_declared n) l s = only_declared n
   only_core (declarator_in_parentheses o r h c) l s = only_brackets o r h (only_declarator r (parenthesis_ends_declarator c))
   only_core no_core l s = record { is = λ x y t f k m v a z. at_no_core l s v }
 
-  pub only_lengthens : {d at : ℕ} {a e : Declarator} {j k : List Token} → Lengthens d at a e j k → EndsDeclarator k → OnlyLengthens at a e j k
-  only_lengthens no_more s = record { is = λ x f k v z. at_no_more s v }
-  only_lengthens (an_array o r c l) s = record { is = λ x f k v z. at_array o (only_sizes r (bracket_closes _ c)) (only_lengthens l s) v z }
-  only_lengthens (a_function o r c l) s = record { is = λ x f k v z. at_function o (only_params r (parenthesis_closes _ c)) (only_lengthens l s) v z }
+  pub lengthens_pass : {d at : ℕ} {a e : Declarator} {j k : List Token} → Lengthens d at a e j k → PassesLengthens at a e j k
+  lengthens_pass no_more = record { is = λ x f k v z. v }
+  lengthens_pass (an_array o r c l) = record { is = λ x f k v z. at_array o (only_sizes r (bracket_closes _ c)) (lengthens_pass l) v z }
+  lengthens_pass (a_function o r c l) = record { is = λ x f k v z. at_function o (only_params r (parenthesis_closes _ c)) (lengthens_pass l) v z }
 
   pub only_params : {d : ℕ} {ps : Params} {i j : List Token} → ReadsParams d ps i j → Closes j → OnlyParams ps i j
   only_params (are_none r) s = record { is = λ x f k v z. at_none r s v z }

@@ -12,23 +12,27 @@ use Rattle.c_syntax.specs.Grammar.{unary_level, cast_level, binary_level, condit
 use Rattle.c_syntax.specs.Grammar.{Reads, no_cast, a_cast, no_chain, a_chain, no_choice, a_choice, no_assignment, an_assignment, no_comma, a_comma, ReadsList, last_expr, next_expr, Chain, no_operator, an_operator}
 use Rattle.c_syntax_printing.proofs.Ranks.{ranked, ranks, apart, heads, ranked_infix, one_infix}
 use Rattle.c_syntax_printing.proofs.Begins.{prefixed_inside, type_begins}
-use Rattle.c_syntax_printing.proofs.Only.{Only, OnlyList, OnlyChain}
+use Rattle.c_syntax_printing.proofs.Only.{Only, OnlyList, PassesChain}
 
 -- what stands after an operand goes on with it
 pub chain_stops : {d n at : ℕ} {a e : Expr} {j k : List Token} → Chain d n at a e j k → Stops (binary_level (suc n)) k → Stops (binary_level n) j
 chain_stops no_operator s = omega arith
 chain_stops {n = n} (an_operator {o = o} l h r c) s = omega (arith, ranked_infix n o l h)
 
+pub stops_before : {d n at : ℕ} {a e : Expr} {j k : List Token} → Chain d n at a e j k → Stops (binary_level n) k → Stops (binary_level n) j
+stops_before no_operator s = s
+stops_before {n = n} (an_operator {o = o} l h r c) s = omega (arith, ranked_infix n o l h)
+
 -- the same, read from an equal list
-moved_chain : {d n at it : ℕ} {a b e : Expr} {i j k : List Token} → at ≡ it → a ≡ b → i ≡ j → Chain d n it b e j k → Chain d n at a e i k
+pub moved_chain : {d n at it : ℕ} {a b e : Expr} {i j k : List Token} → at ≡ it → a ≡ b → i ≡ j → Chain d n it b e j k → Chain d n at a e i k
 moved_chain o p q r = rw (o, p, q) r
 
 -- chains
-pub at_no_operator : {x n at : ℕ} {a f : Expr} {j k : List Token} → Stops (binary_level (suc n)) j → Chain x n at a f j k → (a ≡ f) × (j ≡ k)
+at_no_operator : {x n at : ℕ} {a f : Expr} {j k : List Token} → Stops (binary_level (suc n)) j → Chain x n at a f j k → (a ≡ f) × (j ≡ k)
 at_no_operator s no_operator = (refl, refl)
 at_no_operator {n = n} s (an_operator {o = o} l h r c) = absurd (omega (arith, ranked_infix n o l h))
 
-pub at_operator : {x n at : ℕ} {o : Infix} {a b e f : Expr} {t : Token} {i j k m : List Token} → IsInfix o (suc n) → Is (code_of_infix o) t → Only (binary_level n) b i j → OnlyChain n at (binary at o a b) e j k → Chain x n at a f (t ∷ i) m → Stops (binary_level (suc n)) m → (e ≡ f) × (k ≡ m)
+pub at_operator : {x n at : ℕ} {o : Infix} {a b e f : Expr} {t : Token} {i j k m : List Token} → IsInfix o (suc n) → Is (code_of_infix o) t → Only (binary_level n) b i j → PassesChain n at (binary at o a b) e j k → Chain x n at a f (t ∷ i) m → Stops (binary_level (suc n)) m → Chain x n at e f k m
 at_operator {n = n} {o = o} l h g c no_operator z = absurd (omega (arith, ranked_infix n o l h))
 at_operator {n = n} {at = at} {o = o} {a = a} l h g c (an_operator {o = q} p k r w) z =
     let v = g.is _ _ _ r (chain_stops w z) in c.is _ _ _ (moved_chain refl (ap₂ (λ (i : Infix) (y : Expr). binary at i a y) (one_infix n o q l p h k) v.0) v.1 w) z
@@ -37,8 +41,8 @@ at_operator {n = n} {at = at} {o = o} {a = a} l h g c (an_operator {o = q} p k r
 pub at_no_chain : {x : ℕ} {e f : Expr} {i j k : List Token} → Only cast_level e i j → Reads x (binary_level zero) f i k → Stops (binary_level zero) k → (e ≡ f) × (j ≡ k)
 at_no_chain h (no_chain r) z = h.is _ _ _ r z
 
-pub at_chain : {x n at : ℕ} {a e f : Expr} {i j k m : List Token} → at ≡ place i → Only (binary_level n) a i j → OnlyChain n at a e j k → Reads x (binary_level (suc n)) f i m → Stops (binary_level (suc n)) m → (e ≡ f) × (k ≡ m)
-at_chain p h c (a_chain q r w) z = let u = h.is _ _ _ r (chain_stops w z) in c.is _ _ _ (moved_chain (p ∙ sym q) u.0 u.1 w) z
+pub at_chain : {x n at : ℕ} {a e f : Expr} {i j k m : List Token} → at ≡ place i → Only (binary_level n) a i j → PassesChain n at a e j k → Stops (binary_level (suc n)) k → Reads x (binary_level (suc n)) f i m → Stops (binary_level (suc n)) m → (e ≡ f) × (k ≡ m)
+at_chain p h c s (a_chain q r w) z = let u = h.is _ _ _ r (chain_stops w z) in at_no_operator s (c.is _ _ _ (moved_chain (p ∙ sym q) u.0 u.1 w) z)
 
 -- conditional expressions
 pub at_no_choice : {x : ℕ} {e f : Expr} {i j k : List Token} → Stops conditional_level j → Only (binary_level 10) e i j → Reads x conditional_level f i k → Stops conditional_level k → (e ≡ f) × (j ≡ k)

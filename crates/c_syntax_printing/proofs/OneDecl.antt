@@ -65,7 +65,7 @@ mutual
   same_init (a_list_with_comma h r c e) (a_list_with_comma o v b l) s z =
       let y = same_inits r v (comma_ends c e) (comma_ends b l) in (cc, (heads (heads y.1).1).1)
 
-  same_inits : {d x : ℕ} {a b : Inits} {i j k : List Token} → ReadsInits d a i j → ReadsInits x b i k → EndsList j → EndsList k → (a ≡ b) × (j ≡ k)
+  pub same_inits : {d x : ℕ} {a b : Inits} {i j k : List Token} → ReadsInits d a i j → ReadsInits x b i k → EndsList j → EndsList k → (a ≡ b) × (j ≡ k)
   same_inits (last_init r) (last_init v) s z = let y = same_init r v s.stops z.stops in (cc, y.1)
   same_inits (last_init r) (next_init v b l) s z =
       let y = same_init r v s.stops (omega (arith, ranked b)) in absurd (inits_head l (after_comma y.1 s b))
@@ -117,7 +117,7 @@ same_parts (next_part r n f h g) (next_part v m b c l) s z =
     let w = same_maybe_init f (begins_at (ReadsMaybeInit _ _) y.1 b) (omega (arith, ranked h)) (omega (arith, ranked c)) in
     let u = same_parts g (begins_at (ReadsParts _ _) (heads w.1).1 l) s z in (cc, u.1)
 
-parts_end_spec : {d : ℕ} {a : Parts} {i j : List Token} → ReadsParts d a i j → EndsSpec i
+pub parts_end_spec : {d : ℕ} {a : Parts} {i j : List Token} → ReadsParts d a i j → EndsSpec i
 parts_end_spec (last_part r n f) = named_ends_spec r n
 parts_end_spec (next_part r n f h g) = named_ends_spec r n
 

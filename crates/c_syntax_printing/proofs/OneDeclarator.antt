@@ -14,7 +14,7 @@ use Rattle.c_syntax_printing.specs.Starts.{start, EndsDeclarator, EndsSpec}
 use Rattle.c_syntax_printing.proofs.Ends.{starts, started, started_name, parenthesis_ends_declarator, comma_ends_declarator}
 use Rattle.c_syntax_printing.proofs.OneSpecifier.{same_consts, same_spec}
 use Rattle.c_syntax_printing.proofs.Begins.{choosing_begins, lengthens_begin, lengthens_inside, direct_begins, declares_ends_spec, there_begins, nothing_stands}
-use Rattle.c_syntax_printing.proofs.Only.{Closes, Only, OnlySize, OnlyDeclarator, OnlyCore, OnlyLengthens, OnlyParams, OnlyEach}
+use Rattle.c_syntax_printing.proofs.Only.{Closes, Only, OnlySize, OnlyDeclarator, OnlyCore, PassesLengthens, OnlyParams, OnlyEach}
 
 -- brackets and parentheses close
 pub bracket_closes : {u : Token} (j : List Token) → Is RIGHT_BRACKET u → Closes (u ∷ j)
@@ -27,7 +27,7 @@ pub closed_end : {j : List Token} → Closes j → EndsDeclarator j
 closed_end c = omega (arith, c.none)
 
 -- the same, read from an equal list
-moved_lengthens : {d at it : ℕ} {a b e : Declarator} {i j k : List Token} → at ≡ it → a ≡ b → i ≡ j → Lengthens d it b e j k → Lengthens d at a e i k
+pub moved_lengthens : {d at it : ℕ} {a b e : Declarator} {i j k : List Token} → at ≡ it → a ≡ b → i ≡ j → Lengthens d it b e j k → Lengthens d at a e i k
 moved_lengthens o p q r = rw (o, p, q) r
 
 -- array sizes
@@ -52,9 +52,15 @@ at_pointer {t = t} o c s h (a_pointer q b r) z =
     let u = h.is _ _ _ (begins_at (Declares _ _) v r) z in (ap (λ e. pointer t.from e) u.0, u.1)
 at_pointer o c s h (a_direct p b l) z = absurd ((direct_begins b l z).1 (started o))
 
-pub at_direct : {x at : ℕ} {a e f : Declarator} {i j k m : List Token} → at ≡ place i → (start i ≡ 2 → ⊥) → OnlyCore a i j → OnlyLengthens at a e j k → Declares x f i m → EndsDeclarator m → (e ≡ f) × (k ≡ m)
-at_direct p n h g (a_pointer o c r) z = absurd (n (started o))
-at_direct p n h g (a_direct q c l) z = let v = h.is _ _ _ _ _ _ c l z in g.is _ _ _ (moved_lengthens (p ∙ sym q) v.0 v.1 l) z
+-- where nothing more stands after a declarator
+at_no_more : {x at : ℕ} {a f : Declarator} {j k : List Token} → EndsDeclarator j → Lengthens x at a f j k → (a ≡ f) × (j ≡ k)
+at_no_more s no_more = (refl, refl)
+at_no_more s (an_array o r c l) = absurd (omega (arith, started o))
+at_no_more s (a_function o r c l) = absurd (omega (arith, started o))
+
+pub at_direct : {x at : ℕ} {a e f : Declarator} {i j k m : List Token} → at ≡ place i → (start i ≡ 2 → ⊥) → OnlyCore a i j → PassesLengthens at a e j k → EndsDeclarator k → Declares x f i m → EndsDeclarator m → (e ≡ f) × (k ≡ m)
+at_direct p n h g s (a_pointer o c r) z = absurd (n (started o))
+at_direct p n h g s (a_direct q c l) z = let v = h.is _ _ _ _ _ _ c l z in at_no_more s (g.is _ _ _ (moved_lengthens (p ∙ sym q) v.0 v.1 l) z)
 
 -- what stands before array sizes and parameters
 at_declared : {x at : ℕ} {ident : Ident} {b f : Declarator} {t : Token} {i k m : List Token} → Names ident t → ReadsCore x b (t ∷ i) k → Lengthens x at b f k m → EndsDeclarator m → (named t.from ident ≡ b) × (i ≡ k)
@@ -79,18 +85,13 @@ at_no_core l s (declarator_in_parentheses o r h c) = absurd (omega (arith, lengt
 at_no_core l s no_core = (refl, refl)
 
 -- array sizes and parameters after a declarator
-pub at_no_more : {x at : ℕ} {a f : Declarator} {j k : List Token} → EndsDeclarator j → Lengthens x at a f j k → (a ≡ f) × (j ≡ k)
-at_no_more s no_more = (refl, refl)
-at_no_more s (an_array o r c l) = absurd (omega (arith, started o))
-at_no_more s (a_function o r c l) = absurd (omega (arith, started o))
-
-pub at_array : {x at : ℕ} {size : Maybe} {a e f : Declarator} {t u : Token} {i j k m : List Token} → Is LEFT_BRACKET t → OnlySize size i (u ∷ j) → OnlyLengthens at (array at a size) e j k → Lengthens x at a f (t ∷ i) m → EndsDeclarator m → (e ≡ f) × (k ≡ m)
+pub at_array : {x at : ℕ} {size : Maybe} {a e f : Declarator} {t u : Token} {i j k m : List Token} → Is LEFT_BRACKET t → OnlySize size i (u ∷ j) → PassesLengthens at (array at a size) e j k → Lengthens x at a f (t ∷ i) m → EndsDeclarator m → Lengthens x at e f k m
 at_array o h g no_more z = absurd (omega (arith, started o))
 at_array {at = at} {a = a} o h g (an_array q r c l) z =
     let v = h.is _ _ _ r (bracket_closes _ c) in g.is _ _ _ (moved_lengthens refl (ap (λ s. array at a s) v.0) (heads v.1).1 l) z
 at_array o h g (a_function q r c l) z = absurd (omega (arith, apart o q))
 
-pub at_function : {x at : ℕ} {ps : Params} {a e f : Declarator} {t u : Token} {i j k m : List Token} → Is LEFT_PARENTHESIS t → OnlyParams ps i (u ∷ j) → OnlyLengthens at (function at a ps) e j k → Lengthens x at a f (t ∷ i) m → EndsDeclarator m → (e ≡ f) × (k ≡ m)
+pub at_function : {x at : ℕ} {ps : Params} {a e f : Declarator} {t u : Token} {i j k m : List Token} → Is LEFT_PARENTHESIS t → OnlyParams ps i (u ∷ j) → PassesLengthens at (function at a ps) e j k → Lengthens x at a f (t ∷ i) m → EndsDeclarator m → Lengthens x at e f k m
 at_function o h g no_more z = absurd (omega (arith, started o))
 at_function o h g (an_array q r c l) z = absurd (omega (arith, apart o q))
 at_function {at = at} {a = a} o h g (a_function q r c l) z =

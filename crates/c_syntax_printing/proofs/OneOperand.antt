@@ -15,7 +15,7 @@ use Rattle.c_syntax_printing.proofs.Ranks.{ranked, ranked_name, ranked_int, rank
 use Rattle.c_syntax_printing.specs.Starts.{start}
 use Rattle.c_syntax_printing.proofs.Ends.{started}
 use Rattle.c_syntax_printing.proofs.Begins.{strings_rank, list_begins}
-use Rattle.c_syntax_printing.proofs.Only.{Only, OnlyList, OnlySuffixes}
+use Rattle.c_syntax_printing.proofs.Only.{Only, OnlyList, PassesSuffixes}
 
 -- strings end in one place
 pub same_strings : {a b : List ℕ} {i j k : List Token} → ReadsStrings a i j → ReadsStrings b i k → 1 ≤ rank j → 1 ≤ rank k → (a ≡ b) × (j ≡ k)
@@ -72,14 +72,11 @@ suffix_stops (a_call h r k c) s = omega (arith, ranked h)
 suffix_stops (a_member {access = a} h n c) s = omega (arith, ranked_access _ a h)
 suffix_stops (a_postfix {p = p} h c) s = omega (arith, ranked_postfix _ p h)
 
-moved_suffixes : {d at it : ℕ} {a b e : Expr} {i j k : List Token} → at ≡ it → a ≡ b → i ≡ j → Suffixes d it b e j k → Suffixes d at a e i k
+pub moved_suffixes : {d at it : ℕ} {a b e : Expr} {i j k : List Token} → at ≡ it → a ≡ b → i ≡ j → Suffixes d it b e j k → Suffixes d at a e i k
 moved_suffixes o p q r = rw (o, p, q) r
 
-pub at_suffixed : {at x : ℕ} {a e f : Expr} {i j k m : List Token} → at ≡ place i → Only primary_level a i j → OnlySuffixes at a e j k → Reads x postfix_level f i m → Stops postfix_level m → (e ≡ f) × (k ≡ m)
-at_suffixed p h c (with_suffixes q r w) z = let u = h.is _ _ _ r (suffix_stops w z) in c.is _ _ _ (moved_suffixes (p ∙ sym q) u.0 u.1 w) z
-
 -- suffixes: none
-pub at_no_suffix : {x at : ℕ} {a f : Expr} {j k : List Token} → Stops postfix_level j → Suffixes x at a f j k → (a ≡ f) × (j ≡ k)
+at_no_suffix : {x at : ℕ} {a f : Expr} {j k : List Token} → Stops postfix_level j → Suffixes x at a f j k → (a ≡ f) × (j ≡ k)
 at_no_suffix s no_suffix = (refl, refl)
 at_no_suffix s (an_index h r k c) = absurd (omega (arith, ranked h))
 at_no_suffix s (an_empty_call h k c) = absurd (omega (arith, ranked h))
@@ -87,7 +84,10 @@ at_no_suffix s (a_call h r k c) = absurd (omega (arith, ranked h))
 at_no_suffix s (a_member {access = a} h n c) = absurd (omega (arith, ranked_access _ a h))
 at_no_suffix s (a_postfix {p = p} h c) = absurd (omega (arith, ranked_postfix _ p h))
 
-pub at_index : {x at : ℕ} {a b e f : Expr} {t u : Token} {i j k m : List Token} → Is LEFT_BRACKET t → Only expression_level b i (u ∷ j) → OnlySuffixes at (index at a b) e j k → Suffixes x at a f (t ∷ i) m → Stops postfix_level m → (e ≡ f) × (k ≡ m)
+pub at_suffixed : {at x : ℕ} {a e f : Expr} {i j k m : List Token} → at ≡ place i → Only primary_level a i j → PassesSuffixes at a e j k → Stops postfix_level k → Reads x postfix_level f i m → Stops postfix_level m → (e ≡ f) × (k ≡ m)
+at_suffixed p h c s (with_suffixes q r w) z = let u = h.is _ _ _ r (suffix_stops w z) in at_no_suffix s (c.is _ _ _ (moved_suffixes (p ∙ sym q) u.0 u.1 w) z)
+
+pub at_index : {x at : ℕ} {a b e f : Expr} {t u : Token} {i j k m : List Token} → Is LEFT_BRACKET t → Only expression_level b i (u ∷ j) → PassesSuffixes at (index at a b) e j k → Suffixes x at a f (t ∷ i) m → Stops postfix_level m → Suffixes x at e f k m
 at_index o h c no_suffix z = absurd (omega (arith, ranked o))
 at_index {at = at} {a = a} o h c (an_index q r p w) z =
     let v = h.is _ _ _ r (omega (arith, ranked p)) in c.is _ _ _ (moved_suffixes refl (ap (λ b. index at a b) v.0) (heads v.1).1 w) z
@@ -96,7 +96,7 @@ at_index o h c (a_call q r p w) z = absurd (omega (arith, apart o q))
 at_index o h c (a_member {access = a} q n w) z = absurd (omega (arith, (access_apart a q o).0))
 at_index o h c (a_postfix {p = p} q w) z = absurd (omega (arith, (postfix_apart p q o).0))
 
-pub at_empty_call : {x at : ℕ} {a e f : Expr} {t u : Token} {i k m : List Token} → Is LEFT_PARENTHESIS t → Is RIGHT_PARENTHESIS u → OnlySuffixes at (call at a no_exprs) e i k → Suffixes x at a f (t ∷ u ∷ i) m → Stops postfix_level m → (e ≡ f) × (k ≡ m)
+pub at_empty_call : {x at : ℕ} {a e f : Expr} {t u : Token} {i k m : List Token} → Is LEFT_PARENTHESIS t → Is RIGHT_PARENTHESIS u → PassesSuffixes at (call at a no_exprs) e i k → Suffixes x at a f (t ∷ u ∷ i) m → Stops postfix_level m → Suffixes x at e f k m
 at_empty_call o h c no_suffix z = absurd (omega (arith, ranked o))
 at_empty_call o h c (an_index q r p w) z = absurd (omega (arith, apart o q))
 at_empty_call o h c (an_empty_call q p w) z = c.is _ _ _ w z
@@ -104,7 +104,7 @@ at_empty_call o h c (a_call q r p w) z = absurd (omega (arith, (list_begins r).0
 at_empty_call o h c (a_member {access = a} q n w) z = absurd (omega (arith, (access_apart a q o).0))
 at_empty_call o h c (a_postfix {p = p} q w) z = absurd (omega (arith, (postfix_apart p q o).0))
 
-pub at_call : {x at : ℕ} {a e f : Expr} {bs : Exprs} {t u : Token} {i j k m : List Token} → Is LEFT_PARENTHESIS t → 1 ≤ start i → OnlyList bs i (u ∷ j) → OnlySuffixes at (call at a bs) e j k → Suffixes x at a f (t ∷ i) m → Stops postfix_level m → (e ≡ f) × (k ≡ m)
+pub at_call : {x at : ℕ} {a e f : Expr} {bs : Exprs} {t u : Token} {i j k m : List Token} → Is LEFT_PARENTHESIS t → 1 ≤ start i → OnlyList bs i (u ∷ j) → PassesSuffixes at (call at a bs) e j k → Suffixes x at a f (t ∷ i) m → Stops postfix_level m → Suffixes x at e f k m
 at_call o l h c no_suffix z = absurd (omega (arith, ranked o))
 at_call o l h c (an_index q r p w) z = absurd (omega (arith, apart o q))
 at_call o l h c (an_empty_call q p w) z = absurd (omega (arith, started p))
@@ -113,7 +113,7 @@ at_call {at = at} {a = a} o l h c (a_call q r p w) z =
 at_call o l h c (a_member {access = a} q n w) z = absurd (omega (arith, (access_apart a q o).0))
 at_call o l h c (a_postfix {p = p} q w) z = absurd (omega (arith, (postfix_apart p q o).0))
 
-pub at_member : {x at : ℕ} {access : Access} {ident : Ident} {a e f : Expr} {t u : Token} {i k m : List Token} → IsAccess access t → Names ident u → OnlySuffixes at (member at access a ident) e i k → Suffixes x at a f (t ∷ u ∷ i) m → Stops postfix_level m → (e ≡ f) × (k ≡ m)
+pub at_member : {x at : ℕ} {access : Access} {ident : Ident} {a e f : Expr} {t u : Token} {i k m : List Token} → IsAccess access t → Names ident u → PassesSuffixes at (member at access a ident) e i k → Suffixes x at a f (t ∷ u ∷ i) m → Stops postfix_level m → Suffixes x at e f k m
 at_member {access = b} h n c no_suffix z = absurd (omega (arith, ranked_access _ b h))
 at_member {access = b} h n c (an_index q r p w) z = absurd (omega (arith, (access_apart b h q).0))
 at_member {access = b} h n c (an_empty_call q p w) z = absurd (omega (arith, (access_apart b h q).0))
@@ -121,7 +121,7 @@ at_member {access = b} h n c (a_call q r p w) z = absurd (omega (arith, (access_
 at_member {at = at} {access = b} {a = a} h n c (a_member {access = y} q p w) z = c.is _ _ _ (moved_suffixes refl (ap₂ (λ (i : Access) (m : Ident). member at i a m) (one_access _ b y h q) (one_ident n p)) refl w) z
 at_member {access = b} h n c (a_postfix {p = p} q w) z = absurd (step_apart _ p b q h)
 
-pub at_postfix : {x at : ℕ} {p : Postfix} {a e f : Expr} {t : Token} {i k m : List Token} → IsPostfix p t → OnlySuffixes at (postfix at p a) e i k → Suffixes x at a f (t ∷ i) m → Stops postfix_level m → (e ≡ f) × (k ≡ m)
+pub at_postfix : {x at : ℕ} {p : Postfix} {a e f : Expr} {t : Token} {i k m : List Token} → IsPostfix p t → PassesSuffixes at (postfix at p a) e i k → Suffixes x at a f (t ∷ i) m → Stops postfix_level m → Suffixes x at e f k m
 at_postfix {p = p} h c no_suffix z = absurd (omega (arith, ranked_postfix _ p h))
 at_postfix {p = p} h c (an_index q r o w) z = absurd (omega (arith, (postfix_apart p h q).0))
 at_postfix {p = p} h c (an_empty_call q o w) z = absurd (omega (arith, (postfix_apart p h q).0))

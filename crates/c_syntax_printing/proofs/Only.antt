@@ -18,11 +18,12 @@ pub record Only (l : Level) (e : Expr) (i j : List Token) : Type 0 where
 pub record OnlyList (es : Exprs) (i j : List Token) : Type 0 where
   pub is : (x : ℕ) (fs : Exprs) (k : List Token) → ReadsList x fs i k → Stops expression_level k → (es ≡ fs) × (j ≡ k)
 
-pub record OnlySuffixes (at : ℕ) (a e : Expr) (i j : List Token) : Type 0 where
-  pub is : (x : ℕ) (f : Expr) (k : List Token) → Suffixes x at a f i k → Stops postfix_level k → (e ≡ f) × (j ≡ k)
+-- the suffixes are a part of those that any other reading has, which goes on from where they end
+pub record PassesSuffixes (at : ℕ) (a e : Expr) (i j : List Token) : Type 0 where
+  pub is : (x : ℕ) (f : Expr) (k : List Token) → Suffixes x at a f i k → Stops postfix_level k → Suffixes x at e f j k
 
-pub record OnlyChain (n at : ℕ) (a e : Expr) (i j : List Token) : Type 0 where
-  pub is : (x : ℕ) (f : Expr) (k : List Token) → Chain x n at a f i k → Stops (binary_level (suc n)) k → (e ≡ f) × (j ≡ k)
+pub record PassesChain (n at : ℕ) (a e : Expr) (i j : List Token) : Type 0 where
+  pub is : (x : ℕ) (f : Expr) (k : List Token) → Chain x n at a f i k → Stops (binary_level (suc n)) k → Chain x n at e f j k
 
 pub record OnlySize (m : Maybe) (i j : List Token) : Type 0 where
   pub is : (x : ℕ) (n : Maybe) (k : List Token) → ReadsSize x n i k → Closes k → (m ≡ n) × (j ≡ k)
@@ -36,8 +37,8 @@ pub record OnlyDeclarator (e : Declarator) (i j : List Token) : Type 0 where
 pub record OnlyCore (a : Declarator) (i j : List Token) : Type 0 where
   pub is : (x at : ℕ) (b f : Declarator) (k m : List Token) → ReadsCore x b i k → Lengthens x at b f k m → EndsDeclarator m → (a ≡ b) × (j ≡ k)
 
-pub record OnlyLengthens (at : ℕ) (a e : Declarator) (i j : List Token) : Type 0 where
-  pub is : (x : ℕ) (f : Declarator) (k : List Token) → Lengthens x at a f i k → EndsDeclarator k → (e ≡ f) × (j ≡ k)
+pub record PassesLengthens (at : ℕ) (a e : Declarator) (i j : List Token) : Type 0 where
+  pub is : (x : ℕ) (f : Declarator) (k : List Token) → Lengthens x at a f i k → EndsDeclarator k → Lengthens x at e f j k
 
 pub record OnlyParams (ps : Params) (i j : List Token) : Type 0 where
   pub is : (x : ℕ) (qs : Params) (k : List Token) → ReadsParams x qs i k → Closes k → (ps ≡ qs) × (j ≡ k)

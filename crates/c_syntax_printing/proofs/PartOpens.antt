@@ -14,7 +14,7 @@ use Rattle.c_syntax_printing.specs.Starts.{start_of_kind, start_of_code, start_o
 use Rattle.c_syntax_printing.proofs.FrameGrammar.{declares_on}
 use Rattle.c_syntax_printing.proofs.FrameStatements.{maybe_init_on}
 use Rattle.c_syntax_printing.proofs.MorePairs.{wide_declarator}
-use Rattle.c_syntax_printing.proofs.MorePairsOfUnits.{wide_init}
+use Rattle.c_syntax_printing.proofs.MorePairsOfUnits.{wide_maybe_init}
 use Rattle.c_syntax_printing.specs.Nodes.{InParams, in_first_param, in_later_param, in_params, in_part_declarator, in_part_init, in_later_part, in_an_init, in_decl, declarator_here}
 use Rattle.c_syntax_printing.specs.Pairs.{PairInEach}
 use Rattle.c_syntax_printing.specs.Declarators.{AnyName}
@@ -33,7 +33,7 @@ some_there : (at : ℕ) (s : Spec) (e : Declarator) → IsThere e → AreSome (m
 some_there at void nothing h = absurd h
 some_there at s e h = tt
 
-some_more : (at : ℕ) (s : Spec) (e : Declarator) (q : ℕ) (z : Spec) (f : Declarator) (rest : Params) → AreSome (more_params at s e (more_params q z f rest))
+pub some_more : (at : ℕ) (s : Spec) (e : Declarator) (q : ℕ) (z : Spec) (f : Declarator) (rest : Params) → AreSome (more_params at s e (more_params q z f rest))
 some_more at void nothing q z f rest = tt
 some_more at s e q z f rest = tt
 
@@ -78,10 +78,6 @@ part_init_opens {e = e} g c x h o =
     opens_past (declares_on (wide_declarator c g))
     (opens_under (λ k m y l b. record { trees = more_parts e (an_init y.tree) no_parts; reads = last_part b x (an_initialiser h y.reads); deep = either (λ z. in_part_init (in_an_init z)) (λ z. inr z) y.deep }) o)
 
-wide_maybe_init : {d x : ℕ} {v : MaybeInit} {i j : List Token} → ReadsMaybeInit d v i j → d ≤ x → ReadsMaybeInit x v i j
-wide_maybe_init no_initialiser l = no_initialiser
-wide_maybe_init (an_initialiser h r) l = an_initialiser h (wide_init r l)
-
 pub next_part_opens : {at p n d : ℕ} {e : Declarator} {v : MaybeInit} {t : Token} {i j k r : List Token} → d ≤ suc p → Declares d e i j → HasName e → ReadsMaybeInit d v j (t ∷ k) → Is COMMA t → Opens (DeepParts at p n) k r → Opens (DeepParts at p n) i r
 next_part_opens {e = e} {v = v} g c x w h o =
     opens_past (declares_on (wide_declarator c g)) (opens_past (maybe_init_on (wide_maybe_init w g))
@@ -114,7 +110,7 @@ by_word u (suc (suc (suc (suc (suc (suc (suc (suc (suc (suc (suc (suc (suc (suc 
 by_word u (suc (suc (suc (suc (suc (suc (suc (suc (suc (suc (suc (suc (suc (suc (suc (suc (suc (suc (suc (suc zero)))))))))))))))))))) q l g m = record { tokens = m; reads = (void, is_void no_const (record { kind = q }) no_const) }
 by_word u code q l g m = absurd (omega (arith, l, g))
 
-code_low : (k : ℕ) → start_of_code k ≤ 6
+pub code_low : (k : ℕ) → start_of_code k ≤ 6
 code_low (suc (suc (suc (suc (suc (suc (suc (suc (suc (suc (suc (suc (suc (suc (suc (suc k)))))))))))))))) = omega arith
 code_low k = omega arith
 

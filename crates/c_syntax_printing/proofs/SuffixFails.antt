@@ -1,20 +1,18 @@
 -- Where the suffixes of an operand fail (C99 6.5.2).
-use Rattle.std.proofs.Common.{◌≡◌, ◌≤◌, suc, List, ◌∷◌, refl, sym, ap, ◌∙◌, arith, ℕ}
+use Rattle.std.proofs.Common.{◌≡◌, ◌≤◌, suc, List, ◌∷◌, sym, ◌∙◌, arith, ℕ}
 use Rattle.c_lexer.specs.declared.token.Token.{Token}
 use Rattle.c_lexer.specs.declared.punctuator.TheConstants.{LEFT_PARENTHESIS, RIGHT_PARENTHESIS}
-use Rattle.c_syntax.specs.Tree.{Ident, Access, Expr, call, member, postfix, index}
+use Rattle.c_syntax.specs.Tree.{Expr}
 use Rattle.c_syntax.specs.Tokens.{Is}
 use Rattle.c_syntax.specs.Grammar.{primary_level, postfix_level, Reads, with_suffixes, Suffixes, no_suffix, an_index, an_empty_call, a_call, a_member, a_postfix}
 use Rattle.c_syntax.specs.Limits.{height}
 use Rattle.c_syntax_printing.specs.Ranks.{rank, Stops}
 use Rattle.c_syntax_printing.specs.Twins.{On}
 use Rattle.c_syntax_printing.proofs.Twins.{glue}
-use Rattle.c_syntax_printing.proofs.Ranks.{ranked, heads, apart, one_ident, ranked_postfix, ranked_access, one_postfix, one_access, postfix_apart, access_apart, step_apart}
-use Rattle.c_syntax_printing.proofs.Ends.{started}
-use Rattle.c_syntax_printing.proofs.Begins.{list_begins}
+use Rattle.c_syntax_printing.proofs.Ranks.{ranked, ranked_postfix, ranked_access}
 use Rattle.c_syntax_printing.proofs.FrameGrammar.{reads_on, suffixes_on}
-use Rattle.c_syntax_printing.proofs.OneOperand.{suffix_stops}
-use Rattle.c_syntax_printing.proofs.One.{same, only_list}
+use Rattle.c_syntax_printing.proofs.OneOperand.{suffix_stops, moved_suffixes}
+use Rattle.c_syntax_printing.proofs.One.{same, suffixes_pass}
 use Rattle.c_syntax_printing.specs.Fails.{Meets, Fails, Then, then, Or, first, second, NotAt}
 use Rattle.c_syntax_printing.specs.Phrases.{Bound, within, inner, AnExpr, Punctuator}
 use Rattle.c_syntax_printing.specs.Operands.{SomeExprs, SomeSuffixes, SomeArguments, Postfixed}
@@ -23,48 +21,6 @@ use Rattle.c_syntax_printing.proofs.Fixed.{rank_alike, stops_alike}
 use Rattle.c_syntax_printing.proofs.ExprForms.{suffixes_rise, call_form}
 use Rattle.c_syntax_printing.proofs.PrefixFails.{fits_low}
 use Rattle.c_syntax_printing.proofs.DeclaratorFails.{place_alike}
-
-pub rooted : {x at it : ℕ} {a b f : Expr} {i j k : List Token} → at ≡ it → a ≡ b → i ≡ j → Suffixes x it b f j k → Suffixes x at a f i k
-rooted o p q r = rw (o, p, q) r
-
-same_member : {at : ℕ} {a : Expr} {b y : Access} {n p : Ident} → b ≡ y → n ≡ p → member at b a n ≡ member at y a p
-same_member e f = cc
-
--- the whole goes on from where a part of the suffixes ends
-suffixes_pass : {d x at : ℕ} {a e f : Expr} {i j k : List Token} → Suffixes d at a e i j → Suffixes x at a f i k → Stops postfix_level k → Suffixes x at e f j k
-suffixes_pass no_suffix w z = w
-suffixes_pass (an_index o r c v) no_suffix z = absurd (omega (arith, ranked o))
-suffixes_pass {at = at} {a = a} (an_index o r c v) (an_index q s p w) z =
-    let u = same r s (omega (arith, ranked c)) (omega (arith, ranked p)) in suffixes_pass v (rooted refl (ap (λ b. index at a b) u.0) (heads u.1).1 w) z
-suffixes_pass (an_index o r c v) (an_empty_call q p w) z = absurd (omega (arith, apart o q))
-suffixes_pass (an_index o r c v) (a_call q s p w) z = absurd (omega (arith, apart o q))
-suffixes_pass (an_index o r c v) (a_member {access = b} q n w) z = absurd (omega (arith, (access_apart b q o).0))
-suffixes_pass (an_index o r c v) (a_postfix {p = p} q w) z = absurd (omega (arith, (postfix_apart p q o).0))
-suffixes_pass (an_empty_call o c v) no_suffix z = absurd (omega (arith, ranked o))
-suffixes_pass (an_empty_call o c v) (an_index q s p w) z = absurd (omega (arith, apart o q))
-suffixes_pass (an_empty_call o c v) (an_empty_call q p w) z = suffixes_pass v w z
-suffixes_pass (an_empty_call o c v) (a_call q s p w) z = absurd (omega (arith, (list_begins s).0, started c))
-suffixes_pass (an_empty_call o c v) (a_member {access = b} q n w) z = absurd (omega (arith, (access_apart b q o).0))
-suffixes_pass (an_empty_call o c v) (a_postfix {p = p} q w) z = absurd (omega (arith, (postfix_apart p q o).0))
-suffixes_pass (a_call o r c v) no_suffix z = absurd (omega (arith, ranked o))
-suffixes_pass (a_call o r c v) (an_index q s p w) z = absurd (omega (arith, apart o q))
-suffixes_pass (a_call o r c v) (an_empty_call q p w) z = absurd (omega (arith, (list_begins r).0, started p))
-suffixes_pass {at = at} {a = a} (a_call o r c v) (a_call q s p w) z =
-    let u = (only_list r (omega (arith, ranked c))).is _ _ _ s (omega (arith, ranked p)) in suffixes_pass v (rooted refl (ap (λ b. call at a b) u.0) (heads u.1).1 w) z
-suffixes_pass (a_call o r c v) (a_member {access = b} q n w) z = absurd (omega (arith, (access_apart b q o).0))
-suffixes_pass (a_call o r c v) (a_postfix {p = p} q w) z = absurd (omega (arith, (postfix_apart p q o).0))
-suffixes_pass (a_member {access = y} o m v) no_suffix z = absurd (omega (arith, ranked_access _ y o))
-suffixes_pass (a_member {access = y} o m v) (an_index q s p w) z = absurd (omega (arith, (access_apart y o q).0))
-suffixes_pass (a_member {access = y} o m v) (an_empty_call q p w) z = absurd (omega (arith, (access_apart y o q).0))
-suffixes_pass (a_member {access = y} o m v) (a_call q s p w) z = absurd (omega (arith, (access_apart y o q).0))
-suffixes_pass (a_member {access = y} o m v) (a_member {access = b} q n w) z = suffixes_pass v (rooted refl (same_member (one_access _ y b o q) (one_ident m n)) refl w) z
-suffixes_pass (a_member {access = y} o m v) (a_postfix {p = p} q w) z = absurd (step_apart _ p y q o)
-suffixes_pass (a_postfix {p = y} o v) no_suffix z = absurd (omega (arith, ranked_postfix _ y o))
-suffixes_pass (a_postfix {p = y} o v) (an_index q s p w) z = absurd (omega (arith, (postfix_apart y o q).0))
-suffixes_pass (a_postfix {p = y} o v) (an_empty_call q p w) z = absurd (omega (arith, (postfix_apart y o q).0))
-suffixes_pass (a_postfix {p = y} o v) (a_call q s p w) z = absurd (omega (arith, (postfix_apart y o q).0))
-suffixes_pass (a_postfix {p = y} o v) (a_member {access = b} q n w) z = absurd (step_apart _ y b o q)
-suffixes_pass {at = at} {a = a} (a_postfix {p = y} o v) (a_postfix {p = p} q w) z = suffixes_pass v (rooted refl (ap (λ p. postfix at p a) (one_postfix _ y p o q)) refl w) z
 
 postfixed_on : {d : ℕ} {e : Expr} {i j : List Token} → Postfixed d e i j → (k : List Token) → Meets j k → On (Postfixed d e) i j k
 postfixed_on a k m =
@@ -86,7 +42,7 @@ postfixed_on a k m =
     }
 
 postfixed_passes : {d x : ℕ} {e f : Expr} {i j k : List Token} → Postfixed d e i j → Reads x postfix_level f i k → Stops postfix_level k → (at : ℕ) × Suffixes x at e f j k
-postfixed_passes a (with_suffixes p r w) z = let u = same a.reads r a.stops (suffix_stops w z) in (a.at, suffixes_pass a.suffixes (rooted (a.begins ∙ sym p) u.0 u.1 w) z)
+postfixed_passes a (with_suffixes p r w) z = let u = same a.reads r a.stops (suffix_stops w z) in (a.at, (suffixes_pass a.suffixes).is _ _ _ (moved_suffixes (a.begins ∙ sym p) u.0 u.1 w) z)
 
 -- what follows them fails
 pub postfixed_fails : {b : Bound} {d : ℕ} {e : Expr} {i j r : List Token} → Postfixed d e i j → Fails (SomeSuffixes b) j r → Fails (AnExpr b postfix_level) i r

@@ -14,9 +14,8 @@ use Rattle.flow_graph.specs.Saying.{mention_of, said}
 use Rattle.flow_graph.specs.Callers.{Link, HasCaller, node_called, IsCall, IsCallBelow, IsCandidate, IsCandidateBelow, Leads, IsLedTo, AreFollowed, IsReaching, AreCallers}
 use Rattle.flow_graph.specs.Callers.Leads.{here, on}
 use Rattle.dm_base.proofs.AddingLemmas.{gains_nothing, gains_both}
-use Rattle.flow_graph.proofs.Members.{contains-map, contains-unmap}
-use Rattle.flow_graph.proofs.ReachingLemmas.{map_get}
-use Rattle.flow_graph.proofs.ReachingLemmas.{leads_more}
+use Rattle.c_meaning.proofs.Members.{in_map, from_map}
+use Rattle.flow_graph.proofs.ReachingLemmas.{map_get, leads_more, some_same}
 
 -- what stands in a list where one place was set
 get_set_here : {X : Type 0} (xs : List X) (i : ℕ) (x : X) → i < length xs → slice_get (set xs i x) i ≡ Some x
@@ -31,9 +30,6 @@ get_set_other (y ∷ ys) zero (suc k) x other = refl
 get_set_other (y ∷ ys) (suc i) zero x other = refl
 get_set_other (y ∷ ys) (suc i) (suc k) x other = get_set_other ys i k x (λ e. other (ap suc e))
 
-some_is : {X : Type 0} {x y : X} → Some x ≡ Some y → x ≡ y
-some_is e = cc
-
 -- a caller more
 pub caller_added : (old new : List (Vec ℕ Global)) (to by : ℕ) (v w : Vec ℕ Global) → to < length old → slice_get old to ≡ Some v → new ≡ set old to w → w.items ≡ v.items ++ by ∷ [] → Gains (HasCaller old) (HasCaller new) (IsCandidate (length old) by to)
 caller_added old new to by v w lt at is more = subst (λ new. Gains (HasCaller old) (HasCaller new) (IsCandidate (length old) by to)) (sym is) (λ e. (into e, from e))
@@ -41,7 +37,7 @@ caller_added old new to by v w lt at is more = subst (λ new. Gains (HasCaller o
     into : (e : Link) → HasCaller (set old to w) e → HasCaller old e ⊎ IsCandidate (length old) by to e
     into e (u, found, has) = elim (cases_eq e.to to) as (λ _. HasCaller old e ⊎ IsCandidate (length old) by to e) [
       | inl same ↦
-          let equal : w ≡ u = some_is (sym (get_set_here old to w lt) ∙ ap (slice_get (set old to w)) (sym same) ∙ found) in
+          let equal : w ≡ u = some_same (sym (get_set_here old to w lt) ∙ ap (slice_get (set old to w)) (sym same) ∙ found) in
           elim (Contains-push_cases v.items by e.by (subst (λ xs. Contains xs e.by) (sym (ap (λ (z : Vec ℕ Global). z.items) equal) ∙ more) has)) as (λ _. HasCaller old e ⊎ IsCandidate (length old) by to e) [
             | inl was ↦ inl (v, ap (slice_get old) same ∙ at, was)
             | inr q ↦ inr (sym q, same, omega (arith, same, lt))
@@ -52,7 +48,7 @@ caller_added old new to by v w lt at is more = subst (λ new. Gains (HasCaller o
     from : (e : Link) → HasCaller old e ⊎ IsCandidate (length old) by to e → HasCaller (set old to w) e
     from e (inl (u, found, has)) = elim (cases_eq e.to to) as (λ _. HasCaller (set old to w) e) [
       | inl same ↦
-          let equal : u ≡ v = some_is (sym found ∙ ap (slice_get old) same ∙ at) in
+          let equal : u ≡ v = some_same (sym found ∙ ap (slice_get old) same ∙ at) in
           (w, ap (slice_get (set old to w)) same ∙ get_set_here old to w lt, subst (λ xs. Contains xs e.by) (sym more) (Contains-append_left v.items (by ∷ []) e.by (subst (λ (z : Vec ℕ Global). Contains z.items e.by) equal has)))
       | inr other ↦ (u, get_set_other old to e.to w other ∙ found, has)
     ]
@@ -65,7 +61,7 @@ caller_past old to by past = gains_nothing (HasCaller old) (IsCandidate (length 
 
 -- empty lists
 get_pushed : {X : Type 0} (xs : List X) (x y : X) (k : ℕ) → slice_get (xs ++ x ∷ []) k ≡ Some y → (slice_get xs k ≡ Some y) ⊎ (x ≡ y)
-get_pushed [] x y zero is = inr (some_is is)
+get_pushed [] x y zero is = inr (some_same is)
 get_pushed [] x y (suc k) is = absurd cc
 get_pushed (z ∷ zs) x y zero is = inl is
 get_pushed (z ∷ zs) x y (suc k) is = get_pushed zs x y k is
@@ -85,7 +81,7 @@ call_of_node size types n by node m old new is gains e = (
   ],
   λ either. elim either as (λ _. HasCaller new e) [
     | inl was ↦ (gains e).1 (inl was)
-    | inr (q, at, low) ↦ (gains e).1 (inr (q, some_is (sym at ∙ is), low))
+    | inr (q, at, low) ↦ (gains e).1 (inr (q, some_same (sym at ∙ is), low))
   ],
 )
 
@@ -103,16 +99,16 @@ module _ (size : ℕ) (types : List CType) (n : ℕ) (p : Program) (i : ℕ) (F 
       into : IsCallBelow size types n p (i + 1) e → IsCallBelow size types n p i e ⊎ Has (λ m. IsCall size types n i (mention_of m) e) ms
       into (f, lt, G, found, (m, has, call)) = elim (cases_eq f i) as (λ _. IsCallBelow size types n p i e ⊎ Has (λ m. IsCall size types n i (mention_of m) e) ms) [
         | inl same ↦
-            let equal : G ≡ F = some_is (sym found ∙ ap (slice_get p.functions) same ∙ at) in
+            let equal : G ≡ F = some_same (sym found ∙ ap (slice_get p.functions) same ∙ at) in
             let member : Contains (said ms) m = subst (λ xs. Contains xs m) (ap mentions_of_function equal ∙ sym are) has in
-            let r = contains-unmap mention_of ms m member in
+            let r = from_map mention_of ms m member in
             inr (r.0, r.1, subst (λ m. IsCall size types n i m e) (sym r.2) (subst (λ f. IsCall size types n f m e) same call))
         | inr other ↦ inl (f, omega (arith, lt, other), G, found, (m, has, call))
       ]
 
       from : IsCallBelow size types n p i e ⊎ Has (λ m. IsCall size types n i (mention_of m) e) ms → IsCallBelow size types n p (i + 1) e
       from (inl (f, lt, G, found, calls)) = (f, omega (arith, lt), G, found, calls)
-      from (inr (m, has, call)) = (i, omega arith, F, at, (mention_of m, subst (λ xs. Contains xs (mention_of m)) are (contains-map mention_of ms m has), call))
+      from (inr (m, has, call)) = (i, omega arith, F, at, (mention_of m, subst (λ xs. Contains xs (mention_of m)) are (in_map mention_of ms m has), call))
 
   pub body_more : (old mid new : List (Vec ℕ Global)) → Gains (HasCaller old) (HasCaller mid) (IsCallBelow size types n p i) → Gains (HasCaller mid) (HasCaller new) (λ e. Has (λ m. IsCall size types n i (mention_of m) e) ms) → Gains (HasCaller old) (HasCaller new) (IsCallBelow size types n p (i + 1))
   body_more old mid new before one = gains_both (HasCaller old) (HasCaller mid) (HasCaller new) (IsCallBelow size types n p i) (λ e. Has (λ m. IsCall size types n i (mention_of m) e) ms) (IsCallBelow size types n p (i + 1)) split before one
@@ -128,7 +124,7 @@ module _ (size n : ℕ) (lists : List (List ℕ)) (k : ℕ) (fs : List ℕ) (at 
       into : IsCandidateBelow size n lists (k + 1) e → IsCandidateBelow size n lists k e ⊎ Has (λ f. IsCandidate size (n + k) f e) fs
       into (i, lt, gs, found, has) = elim (cases_eq i k) as (λ _. IsCandidateBelow size n lists k e ⊎ Has (λ f. IsCandidate size (n + k) f e) fs) [
         | inl same ↦
-            let equal : gs ≡ fs = some_is (sym found ∙ ap (slice_get lists) same ∙ at) in
+            let equal : gs ≡ fs = some_same (sym found ∙ ap (slice_get lists) same ∙ at) in
             inr (subst (λ i. Has (λ f. IsCandidate size (n + i) f e) fs) same (subst (λ gs. Has (λ f. IsCandidate size (n + i) f e) gs) equal has))
         | inr other ↦ inl (i, omega (arith, lt, other), gs, found, has)
       ]
@@ -196,7 +192,7 @@ followed_all callers begin all i over to k = (
 pub callers_in : (callers : List (Vec ℕ Global)) (node : ℕ) (v : Vec ℕ Global) → slice_get callers node ≡ Some v → (k : ℕ) → Has (λ n. k ≡ n) v.items ↔ HasCaller callers (record { by = k; to = node })
 callers_in callers node v at k = (
   λ (n, has, is). (v, at, subst (Contains v.items) (sym is) has),
-  λ (w, found, has). (k, subst (λ (z : Vec ℕ Global). Contains z.items k) (some_is (sym found ∙ at)) has, refl),
+  λ (w, found, has). (k, subst (λ (z : Vec ℕ Global). Contains z.items k) (some_same (sym found ∙ at)) has, refl),
 )
 
 pub no_callers_of : (callers : List (Vec ℕ Global)) (node : ℕ) → slice_get callers node ≡ None → (k : ℕ) → HasCaller callers (record { by = k; to = node }) → ⊥

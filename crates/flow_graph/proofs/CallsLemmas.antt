@@ -1,10 +1,10 @@
 -- What a call graph answers.
-use Rattle.std.proofs.Common.{◌≡◌, ℕ, ◌+◌, ◌<◌, ◌≤◌, ◌^◌, Bool, true, false, ◌&&◌, List, [], ◌∷◌, Contains, Option, None, Some, Vec, Global, refl, sym, ◌∙◌, ap, subst, nat_eq, get_or, arith}
-use Rattle.std.specs.Prelude.{slice_get, nat_lt}
+use Rattle.std.proofs.Common.{◌≡◌, ℕ, ◌+◌, ◌<◌, ◌≤◌, ◌^◌, Bool, false, ◌&&◌, List, [], ◌∷◌, Contains, Option, None, Some, Vec, Global, sym, ◌∙◌, ap, subst, nat_eq, get_or, arith}
+use Rattle.std.specs.Prelude.{slice_get}
 use Rattle.std.specs.Borrow.{Bor}
 use Rattle.std.specs.Option.{option_map, unwrap_or}
 use Rattle.std.specs.List.{list_any}
-use Rattle.std.proofs.lemmas.Bool.{lt-ltb, ltb-true}
+use Rattle.std.proofs.lemmas.Bool.{lt-ltb}
 use Rattle.c_tree.specs.Tree.{Program}
 use Rattle.c_tree.specs.Functions.{defined}
 use Rattle.c_meaning.specs.Mentions.{Direct, Through, mentions_of_program}
@@ -13,6 +13,7 @@ use Rattle.flow_graph.specs.declared.calls.Calls.{Calls}
 use Rattle.flow_graph.specs.declared.call_sites.Place.{Place}
 use Rattle.flow_graph.specs.declared.call_sites.Place.TheVariants.{Function, Pointer}
 use Rattle.flow_graph.specs.Calls.{AreCallsOf, IsPlace, place_at}
+use Rattle.c_meaning.proofs.Members.{isnt_below}
 use Rattle.flow_graph.proofs.Members.{any_from, any_to, same_answer}
 
 -- what is read at a site
@@ -38,18 +39,11 @@ module _ (p : Program) (c : Calls) (are : AreCallsOf p c) where
       ∙ sym (ap (λ t. t && reaches p f) (lt-ltb f (defined p) below))
       ∙ sym (ap (marked_where p) callee)
 
-  not_less : (f d : ℕ) → d ≤ f → nat_lt f d ≡ false
-  not_less f d le = by (nat_lt f d) refl
-    where
-      by : (b : Bool) → nat_lt f d ≡ b → b ≡ false
-      by true e = absurd (let lt = ltb-true f d e in omega (arith, lt, le))
-      by false e = refl
-
   pub marked_call : (s f : ℕ) → place_at c s ≡ Some (Function f) → c.defined ≤ f → false ≡ marked p s
   marked_call s f at high =
       let callee : callee_at s (mentions_of_program p) ≡ Some (Direct f) = at_place s (Some (Function f)) at in
       let above : defined p ≤ f = let d = are.defined_are in omega (arith, high, d) in
-      sym (ap (λ t. t && reaches p f) (not_less f (defined p) above)) ∙ sym (ap (marked_where p) callee)
+      sym (ap (λ t. t && reaches p f) (isnt_below f (defined p) above)) ∙ sym (ap (marked_where p) callee)
 
   pub marked_pointer : (s k node : ℕ) (b : Bool) → place_at c s ≡ Some (Pointer k) → node ≡ c.defined + 24 + k → b ≡ list_any (nat_eq node) c.reaching.keys → b ≡ marked p s
   marked_pointer s k node b at is e =

@@ -11,7 +11,7 @@ use Rattle.flow_graph.specs.declared.shape.Shape.{Shape as Tree}
 use Rattle.flow_graph.specs.View.{shape_of, shapes_in}
 use Rattle.c_meaning.specs.GraphOf.{functions_from}
 use Rattle.c_meaning.specs.GraphLayout.{width}
-use Rattle.flow_graph.proofs.RecordLemmas.{dropped_all}
+use Rattle.std.proofs.lemmas.List.{drop_all}
 use Rattle.flow_graph.proofs.TakenLemmas.{small_taken}
 
 length_join : {X : Type 0} (xs ys : List X) → length (xs ++ ys) ≡ length xs + length ys
@@ -91,4 +91,4 @@ none_left n [] = refl
 none_left n (name ∷ names) = refl
 
 pub no_function : (names : List (List ℕ)) (ts : List Tree) (i entry : ℕ) → length ts ≤ i → functions_from entry (drop i names) (shapes_in (drop i ts)) ≡ []
-no_function names ts i entry le = ap (λ us. functions_from entry (drop i names) (shapes_in us)) (dropped_all ts i le) ∙ none_left entry (drop i names)
+no_function names ts i entry le = ap (λ us. functions_from entry (drop i names) (shapes_in us)) (drop_all i ts le) ∙ none_left entry (drop i names)

@@ -1,6 +1,7 @@
 -- Functions that are laid one after another.
-use Rattle.std.proofs.Common.{◌≡◌, ℕ, zero, suc, ◌+◌, ◌<◌, ◌≤◌, min, List, [], ◌∷◌, ◌++◌, length, take, drop, get_or, refl, sym, ap, ◌∙◌, arith, drop-cons}
-use Rattle.std.proofs.lemmas.List.{append-nil, append_assoc, take_more, map-append}
+use Rattle.std.proofs.Common.{◌≡◌, ℕ, ◌+◌, ◌<◌, ◌≤◌, min, List, [], ◌∷◌, ◌++◌, length, take, drop, get_or, refl, sym, ap, ◌∙◌, arith}
+use Rattle.std.proofs.lemmas.List.{append-nil, append_assoc, take_more, map-append, drop_all}
+use Rattle.flow_graph.proofs.RecordLemmas.{dropped}
 use Rattle.flow_graph.specs.declared.shape.Shape.{Shape as Tree}
 use Rattle.flow_graph.specs.View.{shape_of, shapes_in}
 use Rattle.c_meaning.specs.Shape.{Shape}
@@ -18,17 +19,6 @@ nodes_more ts i t sum one wide new most lt is before w o step =
     ap (λ us. nodes_from 0 (shapes_in us)) more ∙ ap (nodes_from 0) (map-append shape_of (take i ts) (t ∷ [])) ∙ nodes_append 0 (shapes_in (take i ts)) (shape_of t) in
     omega (arith, e, before, w, o, step)
 
-dropped : (ts : List Tree) (k : ℕ) (s : Tree) → k < length ts → s ≡ get_or ts k s → shapes_in (drop k ts) ≡ shape_of s ∷ shapes_in (drop (k + 1) ts)
-dropped ts k s lt is =
-    let n : k + 1 ≡ suc k = omega arith in
-    ap shapes_in (drop-cons ts k s lt) ∙ ap (λ s. shape_of s ∷ shapes_in (drop (suc k) ts)) (sym is) ∙ ap (λ m. shape_of s ∷ shapes_in (drop m ts)) (sym n)
-
-dropped_all : (ts : List Tree) (k : ℕ) → length ts ≤ k → shapes_in (drop k ts) ≡ []
-dropped_all [] zero le = refl
-dropped_all [] (suc k) le = refl
-dropped_all (t ∷ ts) zero le = absurd (omega (arith, le))
-dropped_all (t ∷ ts) (suc k) le = dropped_all ts k (omega (arith, le))
-
 nodes_least : (n : ℕ) (xs : List Shape) → n ≤ nodes_from n xs
 nodes_least n [] = omega arith
 nodes_least n (S ∷ xs) = let k = nodes_least (n + 2 + width S) xs in omega (arith, k)
@@ -37,7 +27,7 @@ nodes_least n (S ∷ xs) = let k = nodes_least (n + 2 + width S) xs in omega (ar
 pub nodes_next : (ts : List Tree) (k : ℕ) (s : Tree) (entry next : ℕ) → k < length ts → s ≡ get_or ts k s → next ≡ entry + 2 + width (shape_of s)
     → nodes_from entry (shapes_in (drop k ts)) ≡ nodes_from 0 (shapes_in ts) → nodes_from next (shapes_in (drop (k + 1) ts)) ≡ nodes_from 0 (shapes_in ts)
 nodes_next ts k s entry next lt is step before =
-    ap (λ m. nodes_from m (shapes_in (drop (k + 1) ts))) step ∙ ap (nodes_from entry) (sym (dropped ts k s lt is)) ∙ before
+    ap (λ m. nodes_from m (shapes_in (drop (k + 1) ts))) step ∙ ap (nodes_from entry) (sym (ap shapes_in (dropped ts k s s lt is))) ∙ before
 
 -- what is left for a function where there is room for all
 pub nodes_room : (ts : List Tree) (k : ℕ) (s : Tree) (entry most : ℕ) → k < length ts → s ≡ get_or ts k s → nodes_from entry (shapes_in (drop k ts)) ≡ nodes_from 0 (shapes_in ts) → nodes_from 0 (shapes_in ts) < most → entry + 2 + width (shape_of s) < most
@@ -58,8 +48,8 @@ function_more ts k s mid new all entry exit fresh next lt is at after before ste
     ∙ ap (λ m. mid ++ (edges (shape_of s) entry fresh (ends exit) ++ edges_from m rest)) past
     ∙ ap (λ m. mid ++ (edges (shape_of s) entry m (ends exit) ++ edges_from (entry + 2 + width (shape_of s)) rest)) after
     ∙ ap (λ x. mid ++ (edges (shape_of s) entry (entry + 2) (ends x) ++ edges_from (entry + 2 + width (shape_of s)) rest)) at
-    ∙ ap (λ us. mid ++ edges_from entry us) (sym (dropped ts k s lt is))
+    ∙ ap (λ us. mid ++ edges_from entry us) (sym (ap shapes_in (dropped ts k s s lt is)))
     ∙ before
 
 pub function_end : (ts : List Tree) (k entry : ℕ) (new all : List Edge) → length ts ≤ k → new ++ edges_from entry (shapes_in (drop k ts)) ≡ all → new ≡ all
-function_end ts k entry new all over is = sym (append-nil new) ∙ ap (λ us. new ++ edges_from entry us) (sym (dropped_all ts k over)) ∙ is
+function_end ts k entry new all over is = sym (append-nil new) ∙ ap (λ us. new ++ edges_from entry us) (sym (ap shapes_in (drop_all k ts over))) ∙ is

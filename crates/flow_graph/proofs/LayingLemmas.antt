@@ -1,34 +1,21 @@
 -- Parts that are laid one after another.
-use Rattle.std.proofs.Common.{◌≡◌, ℕ, zero, suc, ◌+◌, ◌-◌, ◌<◌, ◌≤◌, Bool, List, [], ◌∷◌, ◌++◌, length, drop, get_or, Vec, Global, Result, Ok, Err, OnOk, IfOk, refl, sym, ap, ◌∙◌, arith, drop-cons}
+use Rattle.std.proofs.Common.{◌≡◌, ℕ, ◌+◌, ◌-◌, ◌<◌, ◌≤◌, Bool, List, [], ◌∷◌, ◌++◌, length, drop, get_or, Vec, Global, Result, Ok, Err, OnOk, IfOk, refl, sym, ap, ◌∙◌, arith}
 use Rattle.std.specs.Prelude.{Box}
 use Rattle.dm_base.specs.declared.memory.OutOfMemory.{OutOfMemory}
 use Rattle.flow_graph.specs.declared.shape.Shape.TheVariants.{Seq as SeqTree, Cases as CasesTree}
 use Rattle.flow_graph.proofs.Rows.{seq_is, cases_is}
-use Rattle.std.proofs.lemmas.List.{append-nil, append_assoc, length-drop}
+use Rattle.std.proofs.lemmas.List.{append-nil, append_assoc, length-drop, drop_all}
+use Rattle.flow_graph.proofs.RecordLemmas.{dropped}
 use Rattle.flow_graph.specs.declared.shape.Shape.{Shape as Tree}
 use Rattle.dm_base.proofs.ListLemmas.{two_parts}
 use Rattle.flow_graph.specs.View.{shape_of, parts_of}
-use Rattle.c_meaning.specs.Shape.{Shape, Alt, Loop, Do, Seq, Cases, End, Part}
+use Rattle.c_meaning.specs.Shape.{Shape, Alt, Loop, Do, Seq, Cases}
 use Rattle.c_meaning.specs.Walks.{Silent}
 use Rattle.c_meaning.specs.GraphLayout.{Edge, edge, Places, head, width, widths, count, edges, edges_of_parts, body, to_each}
 
 pub parts_many : (ts : List Tree) → count (parts_of ts) ≡ length ts
 parts_many [] = refl
 parts_many (t ∷ ts) = let k = parts_many ts in omega (arith, k)
-
-dropped : (ts : List Tree) (k : ℕ) (s : Tree) → k < length ts → s ≡ get_or ts k s → parts_of (drop k ts) ≡ Part (shape_of s) (parts_of (drop (k + 1) ts))
-dropped ts k s lt is =
-    let n : k + 1 ≡ suc k = omega arith in
-    ap parts_of (drop-cons ts k s lt) ∙ ap (λ s. Part (shape_of s) (parts_of (drop (suc k) ts))) (sym is) ∙ ap (λ m. Part (shape_of s) (parts_of (drop m ts))) (sym n)
-
-pub dropped_all : (ts : List Tree) (k : ℕ) → length ts ≤ k → parts_of (drop k ts) ≡ End
-dropped_all [] zero le = refl
-dropped_all [] (suc k) le = refl
-dropped_all (t ∷ ts) zero le = absurd (omega (arith, le))
-dropped_all (t ∷ ts) (suc k) le = dropped_all ts k (omega (arith, le))
-
-dropped_many : (ts : List Tree) (k : ℕ) → length (drop k ts) ≡ length ts - k
-dropped_many ts k = length-drop k ts
 
 -- where a part leads
 pub leads_to : (ts : List Tree) (r i b : ℕ) → (0 < length ts → r ≡ i) → (length ts ≡ 0 → r ≡ b) → r ≡ head (parts_of ts) i b
@@ -44,18 +31,18 @@ pub laid_more : (ts : List Tree) (k : ℕ) (s : Tree) (old mid new : List Edge) 
     → new ++ edges_of_parts (parts_of (drop (k + 1) ts)) following (next + width (shape_of s)) p ≡ old ++ edges_of_parts (parts_of ts) i n p
 laid_more ts k s old mid new i n node next following to p lt is after some none before step =
     let rest = parts_of (drop (k + 1) ts) in
-    let many : length (drop (k + 1) ts) ≡ length ts - (k + 1) = dropped_many ts (k + 1) in
+    let many : length (drop (k + 1) ts) ≡ length ts - (k + 1) = length-drop (k + 1) ts in
     let at : to ≡ head rest (node + 1) (p.to) = leads_to (drop (k + 1) ts) to (node + 1) (p.to) (λ h. some (omega (arith, h, many)) ∙ after) (λ h. none (omega (arith, h, many))) in
     ap (λ es. es ++ edges_of_parts rest following (next + width (shape_of s)) p) step
     ∙ append_assoc mid (edges (shape_of s) node next (record p { to = to })) (edges_of_parts rest following (next + width (shape_of s)) p)
     ∙ ap (λ m. mid ++ (edges (shape_of s) node next (record p { to = to }) ++ edges_of_parts rest m (next + width (shape_of s)) p)) after
     ∙ ap (λ t. mid ++ (edges (shape_of s) node next (record p { to = t }) ++ edges_of_parts rest (node + 1) (next + width (shape_of s)) p)) at
-    ∙ ap (λ ps. mid ++ edges_of_parts ps node next p) (sym (dropped ts k s lt is))
+    ∙ ap (λ ps. mid ++ edges_of_parts ps node next p) (sym (ap parts_of (dropped ts k s s lt is)))
     ∙ before
 
 pub fresh_more : (ts : List Tree) (k : ℕ) (s : Tree) (n next new : ℕ) → k < length ts → s ≡ get_or ts k s → next + widths (parts_of (drop k ts)) ≡ n + widths (parts_of ts) → new ≡ next + width (shape_of s) → new + widths (parts_of (drop (k + 1) ts)) ≡ n + widths (parts_of ts)
 fresh_more ts k s n next new lt is before step =
-    let e : widths (parts_of (drop k ts)) ≡ width (shape_of s) + widths (parts_of (drop (k + 1) ts)) = ap widths (dropped ts k s lt is) in
+    let e : widths (parts_of (drop k ts)) ≡ width (shape_of s) + widths (parts_of (drop (k + 1) ts)) = ap widths (ap parts_of (dropped ts k s s lt is)) in
     omega (arith, e, before, step)
 
 -- an edge to one part more
@@ -66,11 +53,11 @@ each_more ts k s old mid new a i node following lt is after before step =
     ap (λ es. es ++ to_each a rest following) step
     ∙ append_assoc mid (edge a Silent node ∷ []) (to_each a rest following)
     ∙ ap (λ m. mid ++ edge a Silent node ∷ to_each a rest m) after
-    ∙ ap (λ ps. mid ++ to_each a ps node) (sym (dropped ts k s lt is))
+    ∙ ap (λ ps. mid ++ to_each a ps node) (sym (ap parts_of (dropped ts k s s lt is)))
     ∙ before
 
 pub each_end : (ts : List Tree) (k : ℕ) (old new : List Edge) (a i node : ℕ) → length ts ≤ k → new ++ to_each a (parts_of (drop k ts)) node ≡ old ++ to_each a (parts_of ts) i → new ≡ old ++ to_each a (parts_of ts) i
-each_end ts k old new a i node over is = sym (append-nil new) ∙ ap (λ ps. new ++ to_each a ps node) (sym (dropped_all ts k over)) ∙ is
+each_end ts k old new a i node over is = sym (append-nil new) ∙ ap (λ ps. new ++ to_each a ps node) (sym (ap parts_of (drop_all k ts over))) ∙ is
 
 -- a call's clauses by other words
 pub on_same : (r : Result ℕ OutOfMemory) (old new m b : List Edge) → m ≡ b → OnOk r (new ≡ old ++ b) → OnOk r (new ≡ old ++ m)

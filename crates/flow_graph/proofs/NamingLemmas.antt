@@ -13,7 +13,7 @@ use Rattle.dm_base.specs.Adding.{Has, Adds}
 use Rattle.flow_graph.specs.Saying.{mention_of, said}
 use Rattle.flow_graph.specs.Types.{types_at, first_place, IsThrough}
 use Rattle.dm_base.proofs.AddingLemmas.{adds_same, are_all}
-use Rattle.flow_graph.proofs.Members.{contains-map, contains-unmap}
+use Rattle.c_meaning.proofs.Members.{in_map, from_map}
 use Rattle.flow_graph.proofs.ReachingLemmas.{first_within}
 
 same_name : {f g : ℕ} → Named f ≡ Named g → f ≡ g
@@ -32,8 +32,8 @@ adds_name old new m f is adds = adds_same old new (λ g. g ≡ f) (λ g. m ≡ N
 pub named_all : (ms : List Told) (keys : List ℕ) → Adds [] keys (λ g. Has (λ m. mention_of m ≡ Named g) ms) → (f : ℕ) → Contains keys f ↔ Contains (said ms) (Named f)
 named_all ms keys adds f =
     let all = are_all keys (λ g. Has (λ m. mention_of m ≡ Named g) ms) adds f in (
-      λ has. let r = all.0 has in subst (Contains (said ms)) r.2 (contains-map mention_of ms r.0 r.1),
-      λ has. all.1 (contains-unmap mention_of ms (Named f) has),
+      λ has. let r = all.0 has in subst (Contains (said ms)) r.2 (in_map mention_of ms r.0 r.1),
+      λ has. all.1 (from_map mention_of ms (Named f) has),
     )
 
 -- a mention that calls a pointer
@@ -68,5 +68,5 @@ adds_known_type types t m s is within =
 
 pub types_all : (ms : List Told) (types : List CType) → Adds [] types (λ t. Has (λ m. IsThrough t (mention_of m)) ms) → (s : ℕ) (t : CType) → Contains (said ms) (Calls s (Through t)) → Contains types t
 types_all ms types adds s t has =
-    let r = contains-unmap mention_of ms (Calls s (Through t)) has in
+    let r = from_map mention_of ms (Calls s (Through t)) has in
     (are_all types (λ t. Has (λ m. IsThrough t (mention_of m)) ms) adds t).1 (r.0, r.1, (s, r.2))

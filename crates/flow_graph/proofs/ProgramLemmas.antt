@@ -19,6 +19,7 @@ use Rattle.flow_graph.specs.View.{shape_of, shapes_in}
 use Rattle.flow_graph.specs.Sited.{stmt_at}
 use Rattle.flow_graph.proofs.Told.{defined_told}
 pub use Rattle.flow_graph.proofs.BelowOrAt.{below_or_at}
+use Rattle.c_meaning.proofs.Rounds.{range_append}
 pub use Rattle.flow_graph.proofs.ArgumentLemmas.{nothing}
 
 past_end : (xs : List Bool) (s : ℕ) → length xs ≤ s → slice_index_or xs s false ≡ false
@@ -98,11 +99,7 @@ pub call_left : (b : Bool) (x : ℕ) (old : List Tree) → b ≡ false → shape
 call_left b x old taken = sym (append-nil (shapes_in old)) ∙ sym (ap (λ b. shapes_in old ++ map any_call (if b then x ∷ [] else [])) taken)
 
 pub range_more : (a n : ℕ) → range_with_len a (n + 1) ≡ range_with_len a n ++ (a + n) ∷ []
-range_more a zero = ap (λ m. m ∷ []) (omega arith)
-range_more a (suc n) =
-    let e : suc n + 1 ≡ suc (n + 1) = omega arith in
-    let f : a + 1 + n ≡ a + suc n = omega arith in
-    ap (range_with_len a) e ∙ ap (λ xs. a ∷ xs) (range_more (a + 1) n ∙ ap (λ m. range_with_len (a + 1) n ++ m ∷ []) f)
+range_more a n = range_append a n 1
 
 pub taken_more : (test : ℕ → Bool) (k : ℕ) (start mid new : List Shape) (b : Bool) → mid ≡ start ++ map any_call (filter test (range_with_len 0 k)) → b ≡ test k → new ≡ mid ++ map any_call (if b then k ∷ [] else []) → new ≡ start ++ map any_call (filter test (range_with_len 0 (k + 1)))
 taken_more test k start mid new b before is step =

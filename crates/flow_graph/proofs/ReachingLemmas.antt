@@ -1,63 +1,22 @@
 -- The nodes from which calls lead to a system call are the functions that may come to one, and the types of pointers through which one of those may be called.
-use Rattle.std.proofs.Common.{◌≡◌, ◌⊎◌, ◌↔◌, ℕ, zero, suc, ◌+◌, ◌<◌, ◌≤◌, Bool, true, false, cond, ◌&&◌, ◌||◌, List, [], ◌∷◌, length, map, filter, Contains, Option, None, Some, Vec, Global, refl, sym, ◌∙◌, ap, subst, inl, inr, arith}
-use Rattle.std.specs.Prelude.{slice_get, nat_lt, flat_map, if◌then◌else◌}
+use Rattle.std.proofs.Common.{◌≡◌, ◌⊎◌, ◌↔◌, ℕ, zero, suc, ◌+◌, ◌<◌, ◌≤◌, Bool, true, false, ◌&&◌, ◌||◌, List, [], ◌∷◌, length, map, Contains, Option, None, Some, Vec, Global, refl, sym, ◌∙◌, ap, subst, inl, inr, arith}
+use Rattle.std.specs.Prelude.{slice_get, nat_lt, flat_map, option_map, if◌then◌else◌}
 use Rattle.std.specs.List.{range_with_len}
-use Rattle.std.proofs.lemmas.Bool.{cases_eq, lt-ltb, ltb-true, false≢true}
-use Rattle.std.proofs.lemmas.Option.{slice_get_within}
-use Rattle.std.proofs.lemmas.List.Elements.{Contains-append_left, Contains-append_right}
+use Rattle.std.proofs.lemmas.Bool.{lt-ltb, ltb-true, false≢true}
+use Rattle.std.proofs.lemmas.Option.{slice_get_within, slice_get-map}
+use Rattle.std.proofs.lemmas.List.Elements.{Contains-append_left}
 use Rattle.c_tree.specs.Tree.{CType, Function, Program}
 use Rattle.c_tree.specs.Functions.{defined, value_type}
 use Rattle.c_meaning.specs.Mentions.{Direct, Through, Mention, Named, Calls, mentions_of_function, mentions_of_program}
 use Rattle.c_meaning.specs.CallGraph.{same_type, is_in, has_one, is_taken, is_typed, functions_of, callees, enters, said_by, one_round, reaching, reaches}
 use Rattle.c_meaning.proofs.Rounds.{enough}
+use Rattle.c_meaning.proofs.Members.{or_left, or_right, or_cases}
+use Rattle.c_meaning.proofs.Standing.{in_flat}
 use Rattle.c_meaning.proofs.SameTypes.{types_tell}
 use Rattle.flow_graph.specs.Types.{first_place}
 use Rattle.flow_graph.specs.Callers.{HasCaller, node_called, IsCallBelow, IsCandidateBelow, AreCallers, Leads, IsReaching}
 use Rattle.flow_graph.specs.Callers.Leads.{here, on}
-use Rattle.flow_graph.proofs.Members.{contains-cons, contains-here, contains-cases, contains-none, one_from, one_to, in_from, in_to}
-
--- filters
-module _ {X : Type 0} (test : X → Bool) where
-  kept : (b : Bool) (y : X) (xs : List X) → b ≡ true → Contains (cond b (y ∷ xs) xs) y
-  kept true y xs e = contains-here y xs
-  kept false y xs e = absurd (false≢true e)
-
-  still : (b : Bool) (y x : X) (xs : List X) → Contains xs x → Contains (cond b (y ∷ xs) xs) x
-  still true y x xs has = contains-cons y x xs has
-  still false y x xs has = has
-
-  pub filter_to : (xs : List X) (x : X) → Contains xs x → test x ≡ true → Contains (filter test xs) x
-  filter_to [] x has passes = absurd (contains-none x has)
-  filter_to (y ∷ ys) x has passes = elim (contains-cases y x ys has) as (λ _. Contains (filter test (y ∷ ys)) x) [
-    | inl e ↦ subst (Contains (filter test (y ∷ ys))) e (kept (test y) y (filter test ys) (ap test e ∙ passes))
-    | inr more ↦ still (test y) y x (filter test ys) (filter_to ys x more passes)
-  ]
-
-  from : (b : Bool) (y x : X) (xs : List X) → test y ≡ b → Contains (cond b (y ∷ xs) xs) x → Contains xs x ⊎ ((y ≡ x) × (test y ≡ true))
-  from true y x xs e has = elim (contains-cases y x xs has) as (λ _. Contains xs x ⊎ ((y ≡ x) × (test y ≡ true))) [ inl is ↦ inr (is, e) | inr more ↦ inl more ]
-  from false y x xs e has = inl has
-
-  pub filter_from : (xs : List X) (x : X) → Contains (filter test xs) x → Contains xs x × (test x ≡ true)
-  filter_from [] x has = absurd (contains-none x has)
-  filter_from (y ∷ ys) x has = elim (from (test y) y x (filter test ys) refl has) as (λ _. Contains (y ∷ ys) x × (test x ≡ true)) [
-    | inl more ↦ (let r = filter_from ys x more in (contains-cons y x ys r.0, r.1))
-    | inr is ↦ (subst (Contains (y ∷ ys)) is.0 (contains-here y ys), subst (λ z. test z ≡ true) is.0 is.1)
-  ]
-
--- ranges
-pub range_to : (a n f : ℕ) → a ≤ f → f < a + n → Contains (range_with_len a n) f
-range_to a zero f le lt = absurd (omega (arith, le, lt))
-range_to a (suc n) f le lt = elim (cases_eq a f) as (λ _. Contains (range_with_len a (suc n)) f) [
-  | inl e ↦ subst (Contains (range_with_len a (suc n))) e (contains-here a (range_with_len (a + 1) n))
-  | inr other ↦ contains-cons a f (range_with_len (a + 1) n) (range_to (a + 1) n f (omega (arith, other, le)) (omega (arith, lt)))
-]
-
-pub range_from : (a n f : ℕ) → Contains (range_with_len a n) f → (a ≤ f) × (f < a + n)
-range_from a zero f has = absurd (contains-none f has)
-range_from a (suc n) f has = elim (contains-cases a f (range_with_len (a + 1) n) has) as (λ _. (a ≤ f) × (f < a + suc n)) [
-  | inl e ↦ (omega (arith, e), omega (arith, e))
-  | inr more ↦ (let r = range_from (a + 1) n f more in (omega (arith, r.0), omega (arith, r.1)))
-]
+use Rattle.c_meaning.proofs.Lists.{cases, none_in, one_passes, one_found, in_is, is_in_of, in_filter, from_filter, in_range, from_range}
 
 -- the place of a type that is there
 first_by : (t u : CType) (us : List CType) (b : Bool) → same_type t u ≡ b → (if b then 0 else first_place t us + 1) < length (u ∷ us)
@@ -75,8 +34,8 @@ there_by n m false (inl e) = absurd (false≢true e)
 there_by n m false (inr lt) = omega (arith, lt)
 
 pub first_there : (t : CType) (us : List CType) → Contains us t → first_place t us < length us
-first_there t [] has = absurd (contains-none t has)
-first_there t (u ∷ us) has = there_by (length us) (first_place t us) (same_type t u) (elim (contains-cases u t us has) as (λ _. (same_type t u ≡ true) ⊎ (first_place t us < length us)) [
+first_there t [] has = absurd (none_in t has)
+first_there t (u ∷ us) has = there_by (length us) (first_place t us) (same_type t u) (elim (cases u us t has) as (λ _. (same_type t u ≡ true) ⊎ (first_place t us < length us)) [
   | inl e ↦ inl ((types_tell t u).1 (sym e))
   | inr more ↦ inr (first_there t us more)
 ])
@@ -88,14 +47,7 @@ get_map h (x ∷ xs) zero y is = (x, refl, cc)
 get_map h (x ∷ xs) (suc i) y is = get_map h xs i y is
 
 pub map_get : {X Y : Type 0} (h : X → Y) (xs : List X) (i : ℕ) (x : X) → slice_get xs i ≡ Some x → slice_get (map h xs) i ≡ Some (h x)
-map_get h [] i x is = absurd cc
-map_get h (y ∷ ys) zero x is = let e : y ≡ x = cc in ap (λ z. Some (h z)) e
-map_get h (y ∷ ys) (suc i) x is = map_get h ys i x is
-
-pub contains-flat_map : {X Y : Type 0} (h : X → List Y) (xs : List X) (i : ℕ) (x : X) (y : Y) → slice_get xs i ≡ Some x → Contains (h x) y → Contains (flat_map h xs) y
-contains-flat_map h [] i x y is has = absurd cc
-contains-flat_map h (z ∷ zs) zero x y is has = let e : z ≡ x = cc in Contains-append_left (h z) (flat_map h zs) y (subst (λ w. Contains (h w) y) (sym e) has)
-contains-flat_map h (z ∷ zs) (suc i) x y is has = Contains-append_right (h z) (flat_map h zs) y (contains-flat_map h zs i x y is has)
+map_get h xs i x is = slice_get-map h xs i ∙ ap (option_map h) is
 
 -- the node of a function that is called
 direct_by : (b : Bool) (f j n : ℕ) → nat_lt f n ≡ b → (if b then Some f else None) ≡ Some j → (f ≡ j) × (f < n)
@@ -108,7 +60,7 @@ direct_node f j n is = direct_by (nat_lt f n) f j n refl is
 node_direct : (f n : ℕ) → f < n → (if nat_lt f n then Some f else None) ≡ Some f
 node_direct f n lt = ap (λ b. if b then Some f else None) (lt-ltb f n lt)
 
-some_same : {a b : ℕ} → Some a ≡ Some b → a ≡ b
+pub some_same : {X : Type 0} {a b : X} → Some a ≡ Some b → a ≡ b
 some_same e = cc
 
 pub leads_more : {callers : List (Vec ℕ Global)} {j k l : ℕ} → Leads callers j k → HasCaller callers (record { by = l; to = k }) → Leads callers j l
@@ -134,31 +86,19 @@ module _ (p : Program) (types : List CType) (callers : List (Vec ℕ Global)) (a
   abbrev test : List ℕ → ℕ → Bool
   test fs f = is_in f fs || has_one (enters p fs) (said_by (slice_get p.functions f))
 
-  or_left : (a b : Bool) → a ≡ true → (a || b) ≡ true
-  or_left true b h = refl
-  or_left false b h = absurd (false≢true h)
-
-  or_right : (a b : Bool) → b ≡ true → (a || b) ≡ true
-  or_right true b h = refl
-  or_right false b h = h
-
-  or_cases : (a b : Bool) → (a || b) ≡ true → (a ≡ true) ⊎ (b ≡ true)
-  or_cases true b h = inl refl
-  or_cases false b h = inr h
-
   -- a function whose body has a call that may call a reaching one is reaching
   closed : (f : ℕ) (F : Function) → slice_get p.functions f ≡ Some F → (m : Mention) → Contains (mentions_of_function F) m → enters p R m ≡ true → reaches p f ≡ true
   closed f F is m has may =
       let low : f < d = slice_get_within p.functions f F is in
       let one : has_one (enters p R) (said_by (slice_get p.functions f)) ≡ true =
-      subst (λ o. has_one (enters p R) (said_by o) ≡ true) (sym is) (one_to (enters p R) (mentions_of_function F) m has may) in
-      enough p (suc d) f (in_to f (one_round p R) (filter_to (test R) (functions_of p) f (range_to 0 n f (omega arith) (omega (arith, low))) (or_right (is_in f R) (has_one (enters p R) (said_by (slice_get p.functions f))) one)))
+      subst (λ o. has_one (enters p R) (said_by o) ≡ true) (sym is) (one_found (enters p R) (mentions_of_function F) m has may) in
+      enough p (suc d) f (is_in_of f (one_round p R) (in_filter (test R) (functions_of p) f (in_range 0 n f (omega arith) (omega (arith, low))) (or_right (is_in f R) (has_one (enters p R) (said_by (slice_get p.functions f))) one)))
 
   -- what may be called through a pointer are functions
   callee_low : (t : CType) (g : ℕ) → Contains (callees p (Through t)) g → g < n
   callee_low t g has =
-      let r = (filter_from (λ f. is_taken p f && is_typed t (value_type p f)) (functions_of p) g has).0 in
-      let s = (range_from 0 n g r).1 in
+      let r = (from_filter (λ f. is_taken p f && is_typed t (value_type p f)) (functions_of p) g has).0 in
+      let s = (from_range 0 n g r).1 in
       omega (arith, s)
 
   record Good (x : ℕ) : Type 0 where
@@ -167,7 +107,7 @@ module _ (p : Program) (types : List CType) (callers : List (Vec ℕ Global)) (a
 
   start_good : (j : ℕ) → d ≤ j → j < d + 24 → Good j
   start_good j le lt = record {
-    function = λ _. enough p zero j (in_to j (range_with_len d 24) (range_to d 24 j le lt));
+    function = λ _. enough p zero j (is_in_of j (range_with_len d 24) (in_range d 24 j le lt));
     pointer = λ k t e is. absurd (omega (arith, lt, e));
   }
 
@@ -198,7 +138,7 @@ module _ (p : Program) (types : List CType) (callers : List (Vec ℕ Global)) (a
             let same : i' ≡ i = omega (arith, e, by_is) in
             let both : Some t ≡ Some r.0 = sym at ∙ ap (slice_get types) same ∙ r.1 in
             let equal : r.0 ≡ t = cc in
-            subst (λ u. has_one (reaches p) (callees p (Through u)) ≡ true) equal (one_to (reaches p) (callees p (Through r.0)) g member reach);
+            subst (λ u. has_one (reaches p) (callees p (Through u)) ≡ true) equal (one_found (reaches p) (callees p (Through r.0)) g member reach);
       }
 
   step_good : (j k : ℕ) → Good j → HasCaller callers (record { by = k; to = j }) → Good k
@@ -222,10 +162,10 @@ module _ (p : Program) (types : List CType) (callers : List (Vec ℕ Global)) (a
       (are.are (record { by = n + k; to = g })).1 (inr (k, slice_get_within lists k (callees p (Through t)) at_list, callees p (Through t), at_list, (g, has, (refl, refl, omega (arith, low)))))
 
   known : (m f : ℕ) → is_in f (reaching p m) ≡ true → f < n
-  known zero f h = let r = (range_from d 24 f (in_from f (range_with_len d 24) h)).1 in omega (arith, r)
+  known zero f h = let r = (from_range d 24 f (in_is f (range_with_len d 24) h)).1 in omega (arith, r)
   known (suc m) f h =
-      let r = (filter_from (test (reaching p m)) (functions_of p) f (in_from f (one_round p (reaching p m)) h)).0 in
-      let s = (range_from 0 n f r).1 in
+      let r = (from_filter (test (reaching p m)) (functions_of p) f (in_is f (one_round p (reaching p m)) h)).0 in
+      let s = (from_range 0 n f r).1 in
       omega (arith, s)
 
   module _ (all_types : (s : ℕ) (t : CType) → Contains (mentions_of_program p) (Calls s (Through t)) → Contains types t) where
@@ -233,16 +173,16 @@ module _ (p : Program) (types : List CType) (callers : List (Vec ℕ Global)) (a
         → ((g : ℕ) → is_in g (reaching p i) ≡ true → IsReaching callers d g) → enters p (reaching p i) m ≡ true → IsReaching callers d f
     from_mention f i F is (Named g) has before may = absurd (false≢true may)
     from_mention f i F is (Calls s (Direct g)) has before may =
-        let r = one_from (λ f. is_in f (reaching p i)) (g ∷ []) may in
-        let e : g ≡ r.0 = elim (contains-cases g r.0 [] r.1) as (λ _. g ≡ r.0) [ inl e ↦ e | inr none ↦ absurd (contains-none r.0 none) ] in
+        let r = one_passes (λ f. is_in f (reaching p i)) (g ∷ []) may in
+        let e : g ≡ r.0 = elim (cases g [] r.0 r.1) as (λ _. g ≡ r.0) [ inl e ↦ e | inr none ↦ absurd (none_in r.0 none) ] in
         let reach : is_in g (reaching p i) ≡ true = subst (λ x. is_in x (reaching p i) ≡ true) (sym e) r.2 in
         let low = known i g reach in
         let below : f < d = slice_get_within p.functions f F is in
         extend g f (before g reach) ((are.are (record { by = f; to = g })).1 (inl (f, below, F, is, (Calls s (Direct g), has, (refl, node_direct g n low, omega (arith, low))))))
     from_mention f i F is (Calls s (Through t)) has before may =
-        let r = one_from (λ f. is_in f (reaching p i)) (callees p (Through t)) may in
+        let r = one_passes (λ f. is_in f (reaching p i)) (callees p (Through t)) may in
         let g = r.0 in
-        let in_program = Contains-append_left (flat_map mentions_of_function p.functions) _ (Calls s (Through t)) (contains-flat_map mentions_of_function p.functions f F (Calls s (Through t)) is has) in
+        let in_program = Contains-append_left (flat_map mentions_of_function p.functions) _ (Calls s (Through t)) (in_flat mentions_of_function p.functions f F (Calls s (Through t)) is has) in
         let short = first_there t types (all_types s t in_program) in
         let k = first_place t types in
         let at = first_within t types short in
@@ -252,12 +192,12 @@ module _ (p : Program) (types : List CType) (callers : List (Vec ℕ Global)) (a
 
     from_said : (f i : ℕ) (o : Option Function) → slice_get p.functions f ≡ o → ((g : ℕ) → is_in g (reaching p i) ≡ true → IsReaching callers d g) → has_one (enters p (reaching p i)) (said_by o) ≡ true → IsReaching callers d f
     from_said f i None is before h = absurd (false≢true h)
-    from_said f i (Some F) is before h = let r = one_from (enters p (reaching p i)) (mentions_of_function F) h in from_mention f i F is r.0 r.1 before r.2
+    from_said f i (Some F) is before h = let r = one_passes (enters p (reaching p i)) (mentions_of_function F) h in from_mention f i F is r.0 r.1 before r.2
 
     found : (i f : ℕ) → is_in f (reaching p i) ≡ true → IsReaching callers d f
-    found zero f h = let r = range_from d 24 f (in_from f (range_with_len d 24) h) in (f, r.0, r.1, here)
+    found zero f h = let r = from_range d 24 f (in_is f (range_with_len d 24) h) in (f, r.0, r.1, here)
     found (suc i) f h =
-        let r = (filter_from (test (reaching p i)) (functions_of p) f (in_from f (one_round p (reaching p i)) h)).1 in
+        let r = (from_filter (test (reaching p i)) (functions_of p) f (in_is f (one_round p (reaching p i)) h)).1 in
         elim (or_cases (is_in f (reaching p i)) (has_one (enters p (reaching p i)) (said_by (slice_get p.functions f))) r) as (λ _. IsReaching callers d f) [
           | inl before ↦ found i f before
           | inr one ↦ from_said f i (slice_get p.functions f) refl (found i) one
@@ -269,5 +209,5 @@ module _ (p : Program) (types : List CType) (callers : List (Vec ℕ Global)) (a
     pub pointer_reaches : (k : ℕ) (t : CType) → slice_get types k ≡ Some t → IsReaching callers (defined p) (defined p + 24 + k) ↔ (has_one (reaches p) (callees p (Through t)) ≡ true)
     pointer_reaches k t at = (
       λ is. (reaching_good (n + k) is).pointer k t refl at,
-      λ h. let r = one_from (reaches p) (callees p (Through t)) h in extend (r.0) (n + k) (found d (r.0) r.2) (pointer_link k (r.0) t at r.1),
+      λ h. let r = one_passes (reaches p) (callees p (Through t)) h in extend (r.0) (n + k) (found d (r.0) r.2) (pointer_link k (r.0) t at r.1),
     )

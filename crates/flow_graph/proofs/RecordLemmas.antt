@@ -1,6 +1,6 @@
 -- Records that are given to a builder one after another.
-use Rattle.std.proofs.Common.{◌≡◌, ℕ, zero, suc, ◌+◌, ◌<◌, ◌≤◌, List, [], ◌∷◌, ◌++◌, map, length, drop, get_or, refl, sym, ap, ◌∙◌, arith, drop-cons}
-use Rattle.std.proofs.lemmas.List.{append_assoc, append-nil}
+use Rattle.std.proofs.Common.{◌≡◌, ℕ, ◌+◌, ◌<◌, ◌≤◌, List, [], ◌∷◌, ◌++◌, map, length, drop, get_or, sym, ap, ◌∙◌}
+use Rattle.std.proofs.lemmas.List.{append_assoc, append-nil, drop_more, drop_all}
 use Rattle.flow_model.specs.declared.records.ModelFunction.{ModelFunction}
 use Rattle.flow_model.specs.declared.records.SilentEdge.{SilentEdge}
 use Rattle.flow_model.specs.declared.records.SysEdge.{SysEdge}
@@ -56,34 +56,26 @@ module _ {X : Type 0} (give : Records → List X → Records) (gives : Gives giv
   over : (new all : Records) (left : List X) → left ≡ [] → give new left ≡ all → new ≡ all
   over new all left is before = sym (gives.none new) ∙ ap (give new) (sym is) ∙ before
 
-dropped : {X : Type 0} (xs : List X) (i : ℕ) (d x : X) → i < length xs → x ≡ get_or xs i d → drop i xs ≡ x ∷ drop (i + 1) xs
-dropped xs i d x lt is =
-    let n : i + 1 ≡ suc i = omega arith in
-    drop-cons xs i d lt ∙ ap (λ y. y ∷ drop (suc i) xs) (sym is) ∙ ap (λ m. x ∷ drop m xs) (sym n)
-
-pub dropped_all : {X : Type 0} (xs : List X) (i : ℕ) → length xs ≤ i → drop i xs ≡ []
-dropped_all [] zero le = refl
-dropped_all [] (suc i) le = refl
-dropped_all (x ∷ xs) zero le = absurd (omega (arith, le))
-dropped_all (x ∷ xs) (suc i) le = dropped_all xs i (omega (arith, le))
+pub dropped : {X : Type 0} (xs : List X) (i : ℕ) (d x : X) → i < length xs → x ≡ get_or xs i d → drop i xs ≡ x ∷ drop (i + 1) xs
+dropped xs i d x lt is = drop_more xs i d lt ∙ ap (λ y. y ∷ drop (i + 1) xs) (sym is)
 
 pub silent_more : (xs : List SilentEdge) (i : ℕ) (d x : SilentEdge) (mid new all : Records) → i < length xs → x ≡ get_or xs i d → with_silent mid (drop i xs) ≡ all → new ≡ with_silent mid (x ∷ []) → with_silent new (drop (i + 1) xs) ≡ all
 silent_more xs i d x mid new all lt is = more with_silent gives_silent mid new all x (drop i xs) (drop (i + 1) xs) (dropped xs i d x lt is)
 
 pub silent_end : (xs : List SilentEdge) (i : ℕ) (new all : Records) → length xs ≤ i → with_silent new (drop i xs) ≡ all → new ≡ all
-silent_end xs i new all le = over with_silent gives_silent new all (drop i xs) (dropped_all xs i le)
+silent_end xs i new all le = over with_silent gives_silent new all (drop i xs) (drop_all i xs le)
 
 pub sys_more : (xs : List SysEdge) (i : ℕ) (d x : SysEdge) (mid new all : Records) → i < length xs → x ≡ get_or xs i d → with_sys mid (drop i xs) ≡ all → new ≡ with_sys mid (x ∷ []) → with_sys new (drop (i + 1) xs) ≡ all
 sys_more xs i d x mid new all lt is = more with_sys gives_sys mid new all x (drop i xs) (drop (i + 1) xs) (dropped xs i d x lt is)
 
 pub sys_end : (xs : List SysEdge) (i : ℕ) (new all : Records) → length xs ≤ i → with_sys new (drop i xs) ≡ all → new ≡ all
-sys_end xs i new all le = over with_sys gives_sys new all (drop i xs) (dropped_all xs i le)
+sys_end xs i new all le = over with_sys gives_sys new all (drop i xs) (drop_all i xs le)
 
 pub calls_more : {X : Type 0} (f : X → Call) (xs : List X) (i : ℕ) (d x : X) (mid new all : Records) → i < length xs → x ≡ get_or xs i d → with_calls mid (map f (drop i xs)) ≡ all → new ≡ with_calls mid (f x ∷ []) → with_calls new (map f (drop (i + 1) xs)) ≡ all
 calls_more f xs i d x mid new all lt is = more with_calls gives_calls mid new all (f x) (map f (drop i xs)) (map f (drop (i + 1) xs)) (ap (map f) (dropped xs i d x lt is))
 
 pub calls_end : {X : Type 0} (f : X → Call) (xs : List X) (i : ℕ) (new all : Records) → length xs ≤ i → with_calls new (map f (drop i xs)) ≡ all → new ≡ all
-calls_end f xs i new all le = over with_calls gives_calls new all (map f (drop i xs)) (ap (map f) (dropped_all xs i le))
+calls_end f xs i new all le = over with_calls gives_calls new all (map f (drop i xs)) (ap (map f) (drop_all i xs le))
 
 pub functions_more : (mid new all : Records) (x : ModelFunction) (left rest : List ModelFunction) → left ≡ x ∷ rest → with_functions mid left ≡ all → new ≡ with_functions mid (x ∷ []) → with_functions new rest ≡ all
 functions_more = more with_functions gives_functions

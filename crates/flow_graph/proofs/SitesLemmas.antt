@@ -7,8 +7,7 @@ use Rattle.c_tree.specs.Tree.{Program}
 use Rattle.c_tree.specs.Program.{IsProgram}
 use Rattle.c_meaning.specs.Mentions.{Callee, Mention, Named, Calls, mentions_of_program}
 use Rattle.c_meaning.specs.CallGraph.{names, is_taken, has_one, callee_at}
-use Rattle.flow_graph.proofs.Members.{contains-cons, contains-here, one_from, one_to}
-use Rattle.flow_graph.proofs.ReachingLemmas.{range_from}
+use Rattle.c_meaning.proofs.Lists.{is_first, is_later, one_passes, one_found, from_range}
 use Rattle.c_meaning.proofs.SitesSaid.{sites_in, in_program, site_among}
 
 -- where a call is found
@@ -16,19 +15,19 @@ found_by : (s r : ℕ) (c callee : Callee) (ms : List Mention) (b : Bool) → na
 found_by s r c callee ms true e is rest =
     let same : c ≡ callee = cc in
     let place : r ≡ s = sym (eqb-true s r e) in
-    subst (λ r. Contains (Calls r c ∷ ms) (Calls s callee)) (sym place) (subst (λ x. Contains (Calls s c ∷ ms) (Calls s x)) same (contains-here (Calls s c) ms))
-found_by s r c callee ms false e is rest = contains-cons (Calls r c) (Calls s callee) ms (rest is)
+    subst (λ r. Contains (Calls r c ∷ ms) (Calls s callee)) (sym place) (subst (λ x. Contains (Calls s c ∷ ms) (Calls s x)) same (is_first (Calls s c) ms))
+found_by s r c callee ms false e is rest = is_later (Calls r c) ms (Calls s callee) (rest is)
 
 pub found_at : (s : ℕ) (callee : Callee) (ms : List Mention) → callee_at s ms ≡ Some callee → Contains ms (Calls s callee)
 found_at s callee [] is = absurd cc
-found_at s callee (Named f ∷ ms) is = contains-cons (Named f) (Calls s callee) ms (found_at s callee ms is)
+found_at s callee (Named f ∷ ms) is = is_later (Named f) ms (Calls s callee) (found_at s callee ms is)
 found_at s callee (Calls r c ∷ ms) is = found_by s r c callee ms (nat_eq s r) refl is (found_at s callee ms)
 
 some_site : (s n : ℕ) (p : Program) (callee : Callee) → IsProgram p n → callee_at s (mentions_of_program p) ≡ Some callee → s < n
 some_site s n p callee typed is =
     let has : Contains (sites_in (mentions_of_program p)) s = site_among s callee (mentions_of_program p) (found_at s callee (mentions_of_program p) is) in
     let at : Contains (range_with_len 0 n) s = subst (λ ss. Contains ss s) (in_program p ∙ typed.sites) has in
-    let r = (range_from 0 n s at).1 in
+    let r = (from_range 0 n s at).1 in
     omega (arith, r)
 
 none_by : (s n : ℕ) (p : Program) (o : Option Callee) → IsProgram p n → n ≤ s → callee_at s (mentions_of_program p) ≡ o → o ≡ None
@@ -46,8 +45,8 @@ name_test f (Calls s callee) h = absurd (false≢true h)
 
 pub name_told : (f : ℕ) (ms : List Mention) → Contains ms (Named f) ↔ (has_one (names f) ms ≡ true)
 name_told f ms = (
-  λ has. one_to (names f) ms (Named f) has (eq-eqb f f refl),
-  λ h. let r = one_from (names f) ms h in subst (Contains ms) (sym (name_test f r.0 r.2)) r.1,
+  λ has. one_found (names f) ms (Named f) has (eq-eqb f f refl),
+  λ h. let r = one_passes (names f) ms h in subst (Contains ms) (sym (name_test f r.0 r.2)) r.1,
 )
 
 pub taken_told : (p : Program) (f : ℕ) → Contains (mentions_of_program p) (Named f) ↔ (is_taken p f ≡ true)

@@ -1,5 +1,5 @@
 -- Parts that are taken one after another.
-use Rattle.std.proofs.Common.{◌≡◌, ℕ, zero, suc, ◌+◌, ◌<◌, ◌≤◌, Bool, List, [], ◌∷◌, ◌++◌, length, drop, get_or, refl, sym, ap, ◌∙◌, arith, drop-cons}
+use Rattle.std.proofs.Common.{◌≡◌, ℕ, ◌+◌, ◌<◌, ◌≤◌, Bool, List, [], ◌∷◌, ◌++◌, length, drop, get_or, refl, sym, ap, ◌∙◌}
 use Rattle.flow_graph.specs.declared.shape.Shape.{Shape as Tree}
 use Rattle.flow_graph.specs.View.{shape_of, parts_of}
 use Rattle.c_tree.specs.declared.tree.TExpr.{TExpr}
@@ -11,6 +11,8 @@ use Rattle.c_meaning.specs.Shape.{Shape, Parts, End, Part}
 use Rattle.c_meaning.specs.ShapeOf.{before_parts, without_skips, seq}
 use Rattle.flow_graph.specs.Joined.{joined}
 use Rattle.flow_graph.specs.Sited.{expr_at, exprs_at, inits_at, stmt_at, stmts_at, groups_at}
+use Rattle.std.proofs.lemmas.List.{drop_all}
+use Rattle.flow_graph.proofs.RecordLemmas.{dropped}
 use Rattle.flow_graph.proofs.SequenceLemmas.{joined_end, joined_assoc, before_joined, parts_append}
 
 -- a part for each item
@@ -19,11 +21,6 @@ each f [] = End
 each f (x ∷ xs) = Part (f x) (each f xs)
 
 module _ {X : Type 0} (f : X → Shape) (xs : List X) where
-  dropped : (i : ℕ) (x : X) → i < length xs → x ≡ get_or xs i x → each f (drop i xs) ≡ Part (f x) (each f (drop (i + 1) xs))
-  dropped i x lt is =
-      let n : i + 1 ≡ suc i = omega arith in
-      ap (each f) (drop-cons xs i x lt) ∙ ap (λ y. Part (f y) (each f (drop (suc i) xs))) (sym is) ∙ ap (λ m. Part (f x) (each f (drop m xs))) (sym n)
-
   -- one more is added, unless it is nothing
   pub part_more : (i : ℕ) (x : X) (mid new : List Tree) (part : Tree) (all : Parts) → i < length xs → x ≡ get_or xs i x → joined (parts_of mid) (without_skips (each f (drop i xs))) ≡ all
       → shape_of part ≡ f x → parts_of new ≡ joined (parts_of mid) (before_parts (shape_of part) End) → joined (parts_of new) (without_skips (each f (drop (i + 1) xs))) ≡ all
@@ -31,7 +28,7 @@ module _ {X : Type 0} (f : X → Shape) (xs : List X) where
       let rest = without_skips (each f (drop (i + 1) xs)) in
       ap (λ ps. joined ps rest) step
       ∙ joined_assoc (parts_of mid) (before_parts (shape_of part) End) rest
-      ∙ ap (joined (parts_of mid)) (before_joined (shape_of part) rest ∙ ap (λ S. before_parts S rest) shape ∙ ap without_skips (sym (dropped i x lt is)))
+      ∙ ap (joined (parts_of mid)) (before_joined (shape_of part) rest ∙ ap (λ S. before_parts S rest) shape ∙ ap without_skips (sym (ap (each f) (dropped xs i x x lt is))))
       ∙ before
 
   -- one more is added
@@ -42,20 +39,14 @@ module _ {X : Type 0} (f : X → Shape) (xs : List X) where
       ap (λ ts. joined (parts_of ts) rest) step
       ∙ ap (λ ps. joined ps rest) (parts_append mid (part ∷ []))
       ∙ joined_assoc (parts_of mid) (Part (shape_of part) End) rest
-      ∙ ap (joined (parts_of mid)) (ap (λ S. Part S rest) shape ∙ sym (dropped i x lt is))
+      ∙ ap (joined (parts_of mid)) (ap (λ S. Part S rest) shape ∙ sym (ap (each f) (dropped xs i x x lt is)))
       ∙ before
 
-dropped_all : {X : Type 0} (f : X → Shape) (xs : List X) (i : ℕ) → length xs ≤ i → each f (drop i xs) ≡ End
-dropped_all f [] zero le = refl
-dropped_all f [] (suc i) le = refl
-dropped_all f (x ∷ xs) zero le = absurd (omega (arith, le))
-dropped_all f (x ∷ xs) (suc i) le = dropped_all f xs i (omega (arith, le))
-
 pub parts_end : {X : Type 0} (f : X → Shape) (xs : List X) (i : ℕ) (new all : Parts) → length xs ≤ i → joined new (without_skips (each f (drop i xs))) ≡ all → new ≡ all
-parts_end f xs i new all over is = sym (joined_end new) ∙ ap (λ ps. joined new (without_skips ps)) (sym (dropped_all f xs i over)) ∙ is
+parts_end f xs i new all over is = sym (joined_end new) ∙ ap (λ ps. joined new (without_skips ps)) (sym (ap (each f) (drop_all i xs over))) ∙ is
 
 pub shapes_end : {X : Type 0} (f : X → Shape) (xs : List X) (i : ℕ) (new all : Parts) → length xs ≤ i → joined new (each f (drop i xs)) ≡ all → new ≡ all
-shapes_end f xs i new all over is = sym (joined_end new) ∙ ap (joined new) (sym (dropped_all f xs i over)) ∙ is
+shapes_end f xs i new all over is = sym (joined_end new) ∙ ap (joined new) (sym (ap (each f) (drop_all i xs over))) ∙ is
 
 -- lists of trees
 module _ (n : ℕ) (ms : List Bool) where

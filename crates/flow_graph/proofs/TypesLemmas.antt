@@ -1,9 +1,8 @@
 -- The types of functions, places of types, and the functions that may be called through a pointer.
-use Rattle.std.proofs.Common.{◌≡◌, ◌↔◌, ℕ, zero, suc, ◌+◌, ◌-◌, ◌<◌, ◌≤◌, Bool, true, false, cond, ◌&&◌, List, [], ◌∷◌, ◌++◌, length, map, filter, drop, get_or, Option, Some, refl, sym, ◌∙◌, ap, arith, append-nil}
+use Rattle.std.proofs.Common.{◌≡◌, ◌↔◌, ℕ, suc, ◌+◌, ◌-◌, ◌<◌, ◌≤◌, Bool, true, false, cond, ◌&&◌, List, [], ◌∷◌, ◌++◌, length, map, filter, drop, get_or, Option, Some, refl, sym, ◌∙◌, ap, arith, append-nil}
 use Rattle.std.specs.Prelude.{slice_get, if◌then◌else◌}
 use Rattle.std.specs.Borrow.{Bor}
 use Rattle.std.specs.List.{range_with_len}
-use Rattle.std.proofs.Common.{drop-cons}
 use Rattle.std.proofs.lemmas.List.Elements.{filter-append}
 use Rattle.std.proofs.lemmas.Option.{slice_get-get_or}
 use Rattle.c_tree.specs.declared.tree.CType.{CType as TypeTree}
@@ -13,30 +12,17 @@ use Rattle.c_tree.specs.Functions.{defined, sys_types, type_of_defined, value_ty
 use Rattle.c_meaning.specs.Mentions.{Through}
 use Rattle.c_meaning.specs.CallGraph.{same_type, is_taken, is_typed, functions_of, callees}
 use Rattle.c_meaning.proofs.SameTypes.{types_tell}
+use Rattle.c_meaning.proofs.Members.{length_map}
+pub use Rattle.c_meaning.proofs.Keeps.{sys_many}
+use Rattle.c_meaning.proofs.Places.{get_left, get_right}
+use Rattle.c_meaning.proofs.Rounds.{range_append}
+use Rattle.std.proofs.lemmas.Bool.{and_right, false_from_ne_true}
 use Rattle.c_tree.specs.declared.prototypes.PrototypeType.{PrototypeType}
 use Rattle.c_tree.specs.Prototypes.{type_meant, types_meant}
 use Rattle.flow_graph.specs.Types.{types_at, first_place}
 use Rattle.flow_graph.proofs.Members.{same_answer}
+use Rattle.flow_graph.proofs.RecordLemmas.{dropped}
 use Rattle.flow_graph.proofs.ReachingLemmas.{map_get}
-
-pub sys_many : length sys_types ≡ 24
-unfolding sys_types
-sys_many = refl
-
--- two lists, one after the other
-get_left : {X : Type 0} (xs ys : List X) (k : ℕ) (x : X) → slice_get xs k ≡ Some x → slice_get (xs ++ ys) k ≡ Some x
-get_left [] ys k x is = absurd cc
-get_left (z ∷ zs) ys zero x is = is
-get_left (z ∷ zs) ys (suc k) x is = get_left zs ys k x is
-
-get_right : {X : Type 0} (xs ys : List X) (i k : ℕ) → i ≡ length xs + k → slice_get (xs ++ ys) i ≡ slice_get ys k
-get_right [] ys i k e = let same : i ≡ k = omega (arith, e) in ap (slice_get ys) same
-get_right (z ∷ zs) ys zero k e = absurd (omega (arith, e))
-get_right (z ∷ zs) ys (suc i) k e = get_right zs ys i k (omega (arith, e))
-
-length_map : {X Y : Type 0} (h : X → Y) (xs : List X) → length (map h xs) ≡ length xs
-length_map h [] = refl
-length_map h (x ∷ xs) = ap suc (length_map h xs)
 
 -- the type of a defined function, and of a system call
 pub defined_type : (p : Program) (f : ℕ) (F : Function) (t : CType) → slice_get p.functions f ≡ Some F → F.ctype ≡ t → value_type p f ≡ Some t
@@ -46,7 +32,8 @@ pub call_type : (p : Program) (f k : ℕ) (calls : List TypeTree) (t : TypeTree)
 call_type p f k calls t are e lt is =
     let many : length (map type_of_defined p.functions) ≡ defined p = length_map type_of_defined p.functions in
     let place : f ≡ length (map type_of_defined p.functions) + k = omega (arith, e, many) in
-    get_right (map type_of_defined p.functions) sys_types f k place
+    ap (slice_get (map type_of_defined p.functions ++ sys_types)) place
+    ∙ get_right (map type_of_defined p.functions) sys_types k
     ∙ ap (λ ts. slice_get ts k) (sym are)
     ∙ map_get ctype_of calls k t (slice_get-get_or calls k t lt ∙ ap Some (sym is))
 
@@ -57,31 +44,16 @@ first_by_true t u us e = ap (λ b. if b then 0 else first_place t us + 1) e
 first_by_false : (t u : CType) (us : List CType) → same_type t u ≡ false → first_place t (u ∷ us) ≡ first_place t us + 1
 first_by_false t u us e = ap (λ b. if b then 0 else first_place t us + 1) e
 
-not_same : (b : Bool) → (b ≡ true → ⊥) → b ≡ false
-not_same true h = absurd (h refl)
-not_same false h = refl
-
-dropped : (us : List (Bor TypeTree)) (k : ℕ) (u : Bor TypeTree) → k < length us → u ≡ get_or us k u → types_at (drop k us) ≡ ctype_of u.now ∷ types_at (drop (k + 1) us)
-dropped us k u lt is =
-    let n : k + 1 ≡ suc k = omega arith in
-    ap types_at (drop-cons us k u lt) ∙ ap (λ v. ctype_of v.now ∷ types_at (drop (suc k) us)) (sym is) ∙ ap (λ m. ctype_of u.now ∷ types_at (drop m us)) (sym n)
-
 pub place_here : (t : CType) (us : List (Bor TypeTree)) (k : ℕ) (u : Bor TypeTree) → k < length us → u ≡ get_or us k u → t ≡ ctype_of u.now → first_place t (types_at us) ≡ k + first_place t (types_at (drop k us)) → k ≡ first_place t (types_at us)
 place_here t us k u lt is same before =
-    let at : first_place t (types_at (drop k us)) ≡ 0 = ap (first_place t) (dropped us k u lt is) ∙ first_by_true t (ctype_of u.now) (types_at (drop (k + 1) us)) ((types_tell t (ctype_of u.now)).1 same) in
+    let at : first_place t (types_at (drop k us)) ≡ 0 = ap (λ vs. first_place t (types_at vs)) (dropped us k u u lt is) ∙ first_by_true t (ctype_of u.now) (types_at (drop (k + 1) us)) ((types_tell t (ctype_of u.now)).1 same) in
     omega (arith, before, at)
 
 pub place_more : (t : CType) (us : List (Bor TypeTree)) (k : ℕ) (u : Bor TypeTree) → k < length us → u ≡ get_or us k u → (t ≡ ctype_of u.now → ⊥) → first_place t (types_at us) ≡ k + first_place t (types_at (drop k us)) → first_place t (types_at us) ≡ k + 1 + first_place t (types_at (drop (k + 1) us))
 place_more t us k u lt is other before =
-    let e = not_same (same_type t (ctype_of u.now)) (λ h. other ((types_tell t (ctype_of u.now)).0 h)) in
-    let at : first_place t (types_at (drop k us)) ≡ first_place t (types_at (drop (k + 1) us)) + 1 = ap (first_place t) (dropped us k u lt is) ∙ first_by_false t (ctype_of u.now) (types_at (drop (k + 1) us)) e in
+    let e = false_from_ne_true (same_type t (ctype_of u.now)) (λ h. other ((types_tell t (ctype_of u.now)).0 h)) in
+    let at : first_place t (types_at (drop k us)) ≡ first_place t (types_at (drop (k + 1) us)) + 1 = ap (λ vs. first_place t (types_at vs)) (dropped us k u u lt is) ∙ first_by_false t (ctype_of u.now) (types_at (drop (k + 1) us)) e in
     omega (arith, before, at)
-
-dropped_all : (us : List (Bor TypeTree)) (k : ℕ) → length us ≤ k → types_at (drop k us) ≡ []
-dropped_all [] zero le = refl
-dropped_all [] (suc k) le = refl
-dropped_all (u ∷ us) zero le = absurd (omega (arith, le))
-dropped_all (u ∷ us) (suc k) le = dropped_all us k (omega (arith, le))
 
 pub place_most : (t : CType) (us : List CType) → first_place t us ≤ length us
 place_most t [] = omega arith
@@ -95,18 +67,11 @@ pub types_many : (us : List (Bor TypeTree)) → length (types_at us) ≡ length 
 types_many us = length_map (λ t. ctype_of t.now) us
 
 -- the functions below n that pass a test
-range_more : (a n : ℕ) → range_with_len a (n + 1) ≡ range_with_len a n ++ (a + n) ∷ []
-range_more a zero = let e : a ≡ a + 0 = omega arith in ap (λ x. x ∷ []) e
-range_more a (suc n) =
-    let more : suc n + 1 ≡ suc (n + 1) = omega arith in
-    let place : a + 1 + n ≡ a + suc n = omega arith in
-    ap (range_with_len a) more ∙ ap (λ xs. a ∷ xs) (range_more (a + 1) n ∙ ap (λ x. range_with_len (a + 1) n ++ x ∷ []) place)
-
 module _ (test : ℕ → Bool) where
   passed : (n : ℕ) → filter test (range_with_len 0 (n + 1)) ≡ filter test (range_with_len 0 n) ++ cond (test n) (n ∷ []) []
   passed n =
       let zero_first : 0 + n ≡ n = omega arith in
-      ap (filter test) (range_more 0 n) ∙ filter-append test (range_with_len 0 n) ((0 + n) ∷ []) ∙ ap (λ m. filter test (range_with_len 0 n) ++ cond (test m) (m ∷ []) []) zero_first
+      ap (filter test) (range_append 0 n 1) ∙ filter-append test (range_with_len 0 n) ((0 + n) ∷ []) ∙ ap (λ m. filter test (range_with_len 0 n) ++ cond (test m) (m ∷ []) []) zero_first
 
   pub passed_true : (xs ys : List ℕ) (n : ℕ) → test n ≡ true → xs ≡ filter test (range_with_len 0 n) → ys ≡ xs ++ n ∷ [] → ys ≡ filter test (range_with_len 0 (n + 1))
   passed_true xs ys n e before is = is ∙ ap (λ xs. xs ++ n ∷ []) before ∙ ap (λ b. filter test (range_with_len 0 n) ++ cond b (n ∷ []) []) (sym e) ∙ sym (passed n)
@@ -122,19 +87,15 @@ candidate_taken p f t u b taken at same =
     ∙ sym (ap (λ c. c && is_typed (pointer t) (value_type p f)) taken)
 
 pub candidate_not : (p : Program) (f : ℕ) (t : CType) → (is_taken p f ≡ true → ⊥) → false ≡ (is_taken p f && is_typed (pointer t) (value_type p f))
-candidate_not p f t other = sym (ap (λ c. c && is_typed (pointer t) (value_type p f)) (not_same (is_taken p f) other))
+candidate_not p f t other = sym (ap (λ c. c && is_typed (pointer t) (value_type p f)) (false_from_ne_true (is_taken p f) other))
 
 -- what isn't a pointer calls nothing
 filter_none : (test : ℕ → Bool) (xs : List ℕ) → ((x : ℕ) → test x ≡ false) → filter test xs ≡ []
 filter_none test [] none = refl
 filter_none test (x ∷ xs) none = ap (λ b. cond b (x ∷ filter test xs) (filter test xs)) (none x) ∙ filter_none test xs none
 
-and_false : (a b : Bool) → b ≡ false → (a && b) ≡ false
-and_false true b e = e
-and_false false b e = refl
-
 pub no_callees : (p : Program) (t : CType) → ((o : Option CType) → is_typed t o ≡ false) → callees p (Through t) ≡ []
-no_callees p t none = filter_none (λ f. is_taken p f && is_typed t (value_type p f)) (functions_of p) (λ f. and_false (is_taken p f) (is_typed t (value_type p f)) (none (value_type p f)))
+no_callees p t none = filter_none (λ f. is_taken p f && is_typed t (value_type p f)) (functions_of p) (λ f. and_right (is_taken p f) (is_typed t (value_type p f)) (none (value_type p f)))
 
 -- the parameters of a prototype
 pub same_parameters : (made : List TypeTree) (ts : List PrototypeType) → map ctype_of made ≡ map type_meant ts → types_of made ≡ types_meant ts

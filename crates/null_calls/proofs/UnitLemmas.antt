@@ -1,8 +1,8 @@
 -- Bodies of functions, items and units.
-use Rattle.std.proofs.Common.{◌≡◌, ℕ, ◌+◌, List, [], ◌∷◌, ◌++◌, sym, ap, ◌∙◌}
+use Rattle.std.proofs.Common.{◌≡◌, ℕ, ◌+◌, List, [], ◌∷◌, ◌++◌, ap, ◌∙◌}
 use Rattle.c_tree.specs.Tree.{Program}
 use Rattle.c_syntax.specs.declared.tree.Item.{Item as ItemTree}
-use Rattle.c_syntax.specs.Tree.{Declarator, Decl, Params, named, function, no_params, more_params, nothing, void, unsigned_int, block, BlockItems, Item, decl_item, Items, more_items}
+use Rattle.c_syntax.specs.Tree.{Declarator, Decl, Params, named, function, no_params, more_params, nothing, void, unsigned_int, block, BlockItems, Item, decl_item, Items, no_items, more_items}
 use Rattle.c_syntax.specs.UnitView.{item_at, items_of}
 use Rattle.c_rules.specs.Names.{Name}
 use Rattle.c_rules.specs.Units.{tags_of}
@@ -12,18 +12,24 @@ use Rattle.null_calls_expressions.specs.Instrumented as marks
 use Rattle.null_calls_expressions.specs.Instrumented.{instrumented_unit, calls_of_item, null_prototype}
 use Rattle.null_calls_expressions.specs.InstrumentedStatements as parts
 use Rattle.null_calls_expressions.specs.Kept.{alone}
-use Rattle.null_calls.proofs.TreeLemmas.{item_before}
+use Rattle.null_calls_expressions.specs.Marked.{Marking}
 
 pub body_made : (sites : Sites) (tags : List Name) (at b : ℕ) (is : BlockItems) (kept : List Temporary) (made whole : BlockItems)
     → kept ≡ parts.kept_of_block sites b is → made ≡ parts.items_of_block sites b is → whole ≡ declared_before tags at kept made → block at whole ≡ marks.body_of sites tags at b is
 body_made sites tags at b is kept made whole ks ms h =
     ap (block at) (h ∙ (ap (λ k. declared_before tags at k made) ks ∙ ap (declared_before tags at (parts.kept_of_block sites b is)) ms))
 
-module _ (sites : Sites) (tags : List Name) (b n : ℕ) where
-  pub one_item : (x y : ItemTree) (xs : List ItemTree) → n ≡ b + calls_of_item (item_at x.at x.kind) → item_at y.at y.kind ≡ marks.item sites tags b (item_at x.at x.kind)
-      → marks.items sites tags b (items_of (x ∷ xs)) ≡ item_before y (marks.items sites tags n (items_of xs))
-  one_item x y xs next made =
-      ap (λ i. more_items i (marks.items sites tags (b + calls_of_item (item_at x.at x.kind)) (items_of xs))) (sym made) ∙ ap (λ m. more_items (item_at y.at y.kind) (marks.items sites tags m (items_of xs))) (sym next)
+-- items in turn, whose temporaries stand in their bodies
+abbrev pub calls_of_items : Items → ℕ
+calls_of_items no_items = 0
+calls_of_items (more_items i is) = calls_of_item i + calls_of_items is
+
+module _ (sites : Sites) (tags : List Name) where
+  abbrev pub of_item : Marking Item
+  of_item = record { mark = marks.item sites tags; kept = λ _ _. []; count = calls_of_item }
+
+  abbrev pub of_items : Marking Items
+  of_items = record { mark = marks.items sites tags; kept = λ _ _. []; count = calls_of_items }
 
 pub unit_made : (p : Program) (u : Items) (sites : Sites) (tags : List Name) (x y : Item) (rest : Items) → ((s : ℕ) → sites s ≡ sites_of p s) → tags ≡ tags_of u → x ≡ null_prototype pre_name → y ≡ null_prototype post_name
     → rest ≡ marks.items sites tags 0 u → more_items x (more_items y rest) ≡ instrumented_unit p u

@@ -3,20 +3,13 @@ use Rattle.std.specs.Prelude.{List, Option, None, Some}
 use Rattle.std.specs.Borrow.{Bor}
 use Rattle.c_syntax.specs.declared.tree.DeclPart.{DeclPart}
 use Rattle.c_syntax.specs.declared.tree.BlockItem.{BlockItem}
-use Rattle.c_syntax.specs.declared.tree.Group.{Group}
-use Rattle.c_syntax.specs.Tree.{Parts, no_parts, more_parts, BlockItems, no_block_items, block_stmt, Groups, no_groups, Stmt}
+use Rattle.c_syntax.specs.Tree.{Parts, more_parts, BlockItems, no_block_items, block_stmt, Stmt}
 use Rattle.c_syntax.specs.View.{declarator_of}
-use Rattle.c_syntax.specs.UnitView.{maybe_init_of, block_item_before, group_before}
+use Rattle.c_syntax.specs.UnitView.{maybe_init_of}
 use Rattle.c_syntax.specs.WritesUnit.{block_items_of}
 
-abbrev pub part_of : DeclPart → Parts
-part_of p = more_parts (declarator_of p.declarator) (maybe_init_of p.init) no_parts
-
-abbrev pub item_of : BlockItem → BlockItems
-item_of x = block_item_before x no_block_items
-
-abbrev pub group_of : Group → Groups
-group_of g = group_before g no_groups
+abbrev pub part_before : DeclPart → Parts → Parts
+part_before p rest = more_parts (declarator_of p.declarator) (maybe_init_of p.init) rest
 
 -- the items of a block, or else the statement alone
 abbrev pub items_where : Option (Bor (List BlockItem)) → Stmt → BlockItems

@@ -1,23 +1,33 @@
 // Initialisers and declarations (C99 6.7).
 
-ghost use Rattle.std.specs.Prelude.{◌≡◌, ◌+◌, ◌++◌, OnOk, IfOk};
+ghost use Rattle.std.specs.Prelude.{◌≡◌, IfOk};
 ghost use Rattle.c_syntax.specs.Tree.{list};
+ghost use Rattle.c_syntax.specs.View.{expr_of};
 ghost use Rattle.c_syntax.specs.UnitView.{init_of, maybe_init_of, maybe_of, parts_of, decl_of};
 ghost use Rattle.c_syntax.specs.WritesUnit.{inits_of};
-ghost use Rattle.c_rules.specs.Counts.{calls_of_maybe};
-ghost use Rattle.c_rules.specs.Initialisers.{calls_of_init, calls_of_inits, calls_of_maybe_init};
-ghost use Rattle.c_rules.specs.Variables.{calls_of_parts, calls_of_decl};
 ghost use Rattle.null_calls_expressions.specs.Sited.{sited};
-ghost use Rattle.null_calls_expressions.specs.InstrumentedExpressions as marked;
-ghost use Rattle.null_calls_expressions.specs.InstrumentedStatements as marks;
-ghost use Rattle.null_calls_expressions.specs.Kept.{temporaries_of};
-ghost use Rattle.null_calls.specs.Parts.{part_of};
+ghost use Rattle.null_calls_expressions.specs.Marked.{IsMarked, IsMarkedBefore, reached, of_expr, of_maybe, of_init, of_inits, of_maybe_init, of_parts, of_decl};
+ghost use Rattle.null_calls.specs.Parts.{part_before};
 
 use c_syntax::{Decl, DeclPart, Expr, Init, InitKind};
 use dm_base::OutOfMemory;
 use dm_counts::Count;
 use null_calls_expressions::{MarkedSites, Temporary, copy_declarator, copy_spec, expression};
 use std::alloc::Global;
+
+// An expression whose value is wanted or not.
+pub fn value<'p>(
+    alloc: Global,
+    table: &MarkedSites<'p>,
+    wanted: bool,
+    e: &Expr,
+    next: &mut Count,
+    kept: &mut Vec<Temporary<'p>>,
+) -> Result<Expr, OutOfMemory>
+    ensures { IfOk result (λ made. IsMarked (of_expr (sited table.now) wanted) (reached next.old kept.old.items) (reached next.new kept.new.items) (expr_of e.now) (expr_of made)) }
+{
+    expression(alloc, table, wanted, e, next, kept)
+}
 
 // An expression where one may be left out.
 pub fn maybe<'p>(
@@ -28,13 +38,11 @@ pub fn maybe<'p>(
     next: &mut Count,
     kept: &mut Vec<Temporary<'p>>,
 ) -> Result<Option<Expr>, OutOfMemory>
-    ensures tree { IfOk result (λ made. maybe_of made ≡ marked.maybe (sited table.now) next.old wanted (maybe_of e.now)) }
-    ensures keeps { OnOk result (temporaries_of kept.new.items ≡ temporaries_of kept.old.items ++ marked.kept_of_maybe (sited table.now) next.old wanted (maybe_of e.now)) }
-    ensures counts { OnOk result (next.new ≡ next.old + calls_of_maybe (maybe_of e.now)) }
+    ensures { IfOk result (λ made. IsMarked (of_maybe (sited table.now) wanted) (reached next.old kept.old.items) (reached next.new kept.new.items) (maybe_of e.now) (maybe_of made)) }
 {
     match e {
         Some(e) => {
-            let made = expression(alloc, table, wanted, e, next, kept)?;
+            let made = value(alloc, table, wanted, e, next, kept)?;
             Ok(Some(made))
         }
         None => Ok(None),
@@ -59,14 +67,12 @@ fn init<'p>(
     next: &mut Count,
     kept: &mut Vec<Temporary<'p>>,
 ) -> Result<Init, OutOfMemory>
-    ensures tree { IfOk result (λ made. init_of made ≡ marks.init (sited table.now) next.old (init_of i.now)) }
-    ensures keeps { OnOk result (temporaries_of kept.new.items ≡ temporaries_of kept.old.items ++ marks.kept_of_init (sited table.now) next.old (init_of i.now)) }
-    ensures counts { OnOk result (next.new ≡ next.old + calls_of_init (init_of i.now)) }
+    ensures { IfOk result (λ made. IsMarked (of_init (sited table.now)) (reached next.old kept.old.items) (reached next.new kept.new.items) (init_of i.now) (init_of made)) }
 {
     let at = i.at;
     match &i.kind {
         InitKind::One(e) => {
-            let made = expression(alloc, table, true, e, next, kept)?;
+            let made = value(alloc, table, true, e, next, kept)?;
             Ok(Init {
                 at,
                 kind: InitKind::One(made),
@@ -87,9 +93,7 @@ fn init_list<'p>(
     next: &mut Count,
     kept: &mut Vec<Temporary<'p>>,
 ) -> Result<Vec<Init>, OutOfMemory>
-    ensures tree { IfOk result (λ made. inits_of made.items ≡ marks.inits (sited table.now) next.old (inits_of list.now)) }
-    ensures keeps { OnOk result (temporaries_of kept.new.items ≡ temporaries_of kept.old.items ++ marks.kept_of_inits (sited table.now) next.old (inits_of list.now)) }
-    ensures counts { OnOk result (next.new ≡ next.old + calls_of_inits (inits_of list.now)) }
+    ensures { IfOk result (λ made. IsMarked (of_inits (sited table.now)) (reached next.old kept.old.items) (reached next.new kept.new.items) (inits_of list.now) (inits_of made.items)) }
 {
     let mut made = Vec::new(alloc);
     for k in 0..list.len() {
@@ -106,9 +110,7 @@ fn maybe_init<'p>(
     next: &mut Count,
     kept: &mut Vec<Temporary<'p>>,
 ) -> Result<Option<Init>, OutOfMemory>
-    ensures tree { IfOk result (λ made. maybe_init_of made ≡ marks.maybe_init (sited table.now) next.old (maybe_init_of i.now)) }
-    ensures keeps { OnOk result (temporaries_of kept.new.items ≡ temporaries_of kept.old.items ++ marks.kept_of_maybe_init (sited table.now) next.old (maybe_init_of i.now)) }
-    ensures counts { OnOk result (next.new ≡ next.old + calls_of_maybe_init (maybe_init_of i.now)) }
+    ensures { IfOk result (λ made. IsMarked (of_maybe_init (sited table.now)) (reached next.old kept.old.items) (reached next.new kept.new.items) (maybe_init_of i.now) (maybe_init_of made)) }
 {
     match i {
         Some(i) => {
@@ -126,9 +128,7 @@ fn part<'p>(
     next: &mut Count,
     kept: &mut Vec<Temporary<'p>>,
 ) -> Result<DeclPart, OutOfMemory>
-    ensures tree { IfOk result (λ made. part_of made ≡ marks.parts (sited table.now) next.old (part_of p.now)) }
-    ensures keeps { OnOk result (temporaries_of kept.new.items ≡ temporaries_of kept.old.items ++ marks.kept_of_maybe_init (sited table.now) next.old (maybe_init_of p.now.init)) }
-    ensures counts { OnOk result (next.new ≡ next.old + calls_of_maybe_init (maybe_init_of p.now.init)) }
+    ensures { IfOk result (λ made. IsMarkedBefore (of_parts (sited table.now)) (reached next.old kept.old.items) (reached next.new kept.new.items) (part_before p.now) (part_before made)) }
 {
     let declarator = copy_declarator(alloc, &p.declarator)?;
     let init = maybe_init(alloc, table, &p.init, next, kept)?;
@@ -142,9 +142,7 @@ fn part_list<'p>(
     next: &mut Count,
     kept: &mut Vec<Temporary<'p>>,
 ) -> Result<Vec<DeclPart>, OutOfMemory>
-    ensures tree { IfOk result (λ made. parts_of made.items ≡ marks.parts (sited table.now) next.old (parts_of ps.now)) }
-    ensures keeps { OnOk result (temporaries_of kept.new.items ≡ temporaries_of kept.old.items ++ marks.kept_of_parts (sited table.now) next.old (parts_of ps.now)) }
-    ensures counts { OnOk result (next.new ≡ next.old + calls_of_parts (parts_of ps.now)) }
+    ensures { IfOk result (λ made. IsMarked (of_parts (sited table.now)) (reached next.old kept.old.items) (reached next.new kept.new.items) (parts_of ps.now) (parts_of made.items)) }
 {
     let mut made = Vec::new(alloc);
     for k in 0..ps.len() {
@@ -162,9 +160,7 @@ pub fn declaration<'p>(
     next: &mut Count,
     kept: &mut Vec<Temporary<'p>>,
 ) -> Result<Decl, OutOfMemory>
-    ensures tree { IfOk result (λ made. decl_of made ≡ marks.declaration (sited table.now) next.old (decl_of d.now)) }
-    ensures keeps { OnOk result (temporaries_of kept.new.items ≡ temporaries_of kept.old.items ++ marks.kept_of_decl (sited table.now) next.old (decl_of d.now)) }
-    ensures counts { OnOk result (next.new ≡ next.old + calls_of_decl (decl_of d.now)) }
+    ensures { IfOk result (λ made. IsMarked (of_decl (sited table.now)) (reached next.old kept.old.items) (reached next.new kept.new.items) (decl_of d.now) (decl_of made)) }
 {
     let spec = copy_spec(alloc, &d.spec)?;
     let parts = part_list(alloc, table, &d.parts, next, kept)?;

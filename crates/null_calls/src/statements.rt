@@ -1,23 +1,19 @@
 // Statements (C99 6.8).
 
-ghost use Rattle.std.specs.Prelude.{◌≡◌, ◌+◌, ◌++◌, OnOk, IfOk};
-ghost use Rattle.c_syntax.specs.Tree.{no_block_items, no_groups};
+ghost use Rattle.std.specs.Prelude.{IfOk};
 ghost use Rattle.c_syntax.specs.UnitView.{first_of_head, stmt_of, block_item_before, group_before};
 ghost use Rattle.c_syntax.specs.WritesUnit.{block_items_of, stmts_of, groups_of};
-ghost use Rattle.c_rules.specs.Variables.{calls_of_first, calls_of_stmt, calls_of_block, calls_of_stmts, calls_of_groups};
 ghost use Rattle.null_calls_expressions.specs.Sited.{sited};
-ghost use Rattle.null_calls_expressions.specs.InstrumentedStatements as marks;
-ghost use Rattle.null_calls_expressions.specs.Kept.{temporaries_of};
-ghost use Rattle.null_calls.specs.Parts.{item_of, group_of};
+ghost use Rattle.null_calls_expressions.specs.Marked.{IsMarked, IsMarkedBefore, reached, of_first, of_stmt, of_block, of_stmts, of_groups};
 
-use crate::declarations::{declaration, maybe};
+use crate::declarations::{declaration, maybe, value};
 use crate::statement_nodes::{
     block_node, do_node, for_node, group_node, if_else_node, if_node, switch_node, while_node,
 };
 use c_syntax::{BlockItem, ForFirst, Group, Stmt, StmtKind};
 use dm_base::OutOfMemory;
 use dm_counts::Count;
-use null_calls_expressions::{MarkedSites, Temporary, copy_labels, expression};
+use null_calls_expressions::{MarkedSites, Temporary, copy_labels};
 use std::alloc::Global;
 
 // What stands first in the head of a for; the value of an expression there isn't wanted.
@@ -28,14 +24,12 @@ fn head<'p>(
     next: &mut Count,
     kept: &mut Vec<Temporary<'p>>,
 ) -> Result<ForFirst, OutOfMemory>
-    ensures tree { IfOk result (λ made. first_of_head made ≡ marks.first (sited table.now) next.old (first_of_head f.now)) }
-    ensures keeps { OnOk result (temporaries_of kept.new.items ≡ temporaries_of kept.old.items ++ marks.kept_of_first (sited table.now) next.old (first_of_head f.now)) }
-    ensures counts { OnOk result (next.new ≡ next.old + calls_of_first (first_of_head f.now)) }
+    ensures { IfOk result (λ made. IsMarked (of_first (sited table.now)) (reached next.old kept.old.items) (reached next.new kept.new.items) (first_of_head f.now) (first_of_head made)) }
 {
     match f {
         ForFirst::Absent => Ok(ForFirst::Absent),
         ForFirst::Expr(e) => {
-            let made = expression(alloc, table, false, e, next, kept)?;
+            let made = value(alloc, table, false, e, next, kept)?;
             Ok(ForFirst::Expr(made))
         }
         ForFirst::Declaration(d) => {
@@ -55,9 +49,7 @@ pub fn statement<'p>(
     next: &mut Count,
     kept: &mut Vec<Temporary<'p>>,
 ) -> Result<Stmt, OutOfMemory>
-    ensures tree { IfOk result (λ made. stmt_of made ≡ marks.stmt (sited table.now) next.old (stmt_of s.now)) }
-    ensures keeps { OnOk result (temporaries_of kept.new.items ≡ temporaries_of kept.old.items ++ marks.kept_of_stmt (sited table.now) next.old (stmt_of s.now)) }
-    ensures counts { OnOk result (next.new ≡ next.old + calls_of_stmt (stmt_of s.now)) }
+    ensures { IfOk result (λ made. IsMarked (of_stmt (sited table.now)) (reached next.old kept.old.items) (reached next.new kept.new.items) (stmt_of s.now) (stmt_of made)) }
 {
     let at = s.at;
     match &s.kind {
@@ -70,38 +62,32 @@ pub fn statement<'p>(
             kind: StmtKind::Empty,
         }),
         StmtKind::Expr(e) => {
-            let made = expression(alloc, table, false, e, next, kept)?;
+            let made = value(alloc, table, false, e, next, kept)?;
             Ok(Stmt {
                 at,
                 kind: StmtKind::Expr(made),
             })
         }
         StmtKind::If { test, yes, no } => {
-            let made = expression(alloc, table, true, test, next, kept)?;
+            let made = value(alloc, table, true, test, next, kept)?;
             let first = statement(alloc, table, yes, next, kept)?;
             match no {
                 Some(no) => {
                     let other = statement(alloc, table, no, next, kept)?;
-                    let whole = if_else_node(alloc, at, made, first, other)?;
-                    Ok(whole)
+                    if_else_node(alloc, at, made, first, other)
                 }
-                None => {
-                    let whole = if_node(alloc, at, made, first)?;
-                    Ok(whole)
-                }
+                None => if_node(alloc, at, made, first),
             }
         }
         StmtKind::While { test, body } => {
-            let made = expression(alloc, table, true, test, next, kept)?;
+            let made = value(alloc, table, true, test, next, kept)?;
             let turn = statement(alloc, table, body, next, kept)?;
-            let whole = while_node(alloc, at, made, turn)?;
-            Ok(whole)
+            while_node(alloc, at, made, turn)
         }
         StmtKind::Do { body, test } => {
             let turn = statement(alloc, table, body, next, kept)?;
-            let made = expression(alloc, table, true, test, next, kept)?;
-            let whole = do_node(alloc, at, turn, made)?;
-            Ok(whole)
+            let made = value(alloc, table, true, test, next, kept)?;
+            do_node(alloc, at, turn, made)
         }
         StmtKind::For {
             first,
@@ -113,11 +99,10 @@ pub fn statement<'p>(
             let tested = maybe(alloc, table, true, test, next, kept)?;
             let stepped = maybe(alloc, table, false, step, next, kept)?;
             let turn = statement(alloc, table, body, next, kept)?;
-            let whole = for_node(alloc, at, begin, tested, stepped, turn)?;
-            Ok(whole)
+            for_node(alloc, at, begin, tested, stepped, turn)
         }
         StmtKind::Switch { on, groups } => {
-            let made = expression(alloc, table, true, on, next, kept)?;
+            let made = value(alloc, table, true, on, next, kept)?;
             let all = group_list(alloc, table, groups, next, kept)?;
             Ok(switch_node(at, made, all))
         }
@@ -148,9 +133,7 @@ pub fn block_items<'p>(
     next: &mut Count,
     kept: &mut Vec<Temporary<'p>>,
 ) -> Result<Vec<BlockItem>, OutOfMemory>
-    ensures tree { IfOk result (λ made. block_items_of made.items ≡ marks.items_of_block (sited table.now) next.old (block_items_of list.now)) }
-    ensures keeps { OnOk result (temporaries_of kept.new.items ≡ temporaries_of kept.old.items ++ marks.kept_of_block (sited table.now) next.old (block_items_of list.now)) }
-    ensures counts { OnOk result (next.new ≡ next.old + calls_of_block (block_items_of list.now)) }
+    ensures { IfOk result (λ made. IsMarked (of_block (sited table.now)) (reached next.old kept.old.items) (reached next.new kept.new.items) (block_items_of list.now) (block_items_of made.items)) }
 {
     let mut made = Vec::new(alloc);
     for k in 0..list.len() {
@@ -168,9 +151,7 @@ fn block_item<'p>(
     next: &mut Count,
     kept: &mut Vec<Temporary<'p>>,
 ) -> Result<BlockItem, OutOfMemory>
-    ensures tree { IfOk result (λ made. item_of made ≡ marks.items_of_block (sited table.now) next.old (item_of x.now)) }
-    ensures keeps { OnOk result (temporaries_of kept.new.items ≡ temporaries_of kept.old.items ++ marks.kept_of_block (sited table.now) next.old (item_of x.now)) }
-    ensures counts { OnOk result (next.new ≡ next.old + calls_of_block (item_of x.now)) }
+    ensures { IfOk result (λ made. IsMarkedBefore (of_block (sited table.now)) (reached next.old kept.old.items) (reached next.new kept.new.items) (block_item_before x.now) (block_item_before made)) }
 {
     match x {
         BlockItem::Declaration(d) => {
@@ -192,9 +173,7 @@ fn statement_list<'p>(
     next: &mut Count,
     kept: &mut Vec<Temporary<'p>>,
 ) -> Result<Vec<Stmt>, OutOfMemory>
-    ensures tree { IfOk result (λ made. stmts_of made.items ≡ marks.stmts (sited table.now) next.old (stmts_of list.now)) }
-    ensures keeps { OnOk result (temporaries_of kept.new.items ≡ temporaries_of kept.old.items ++ marks.kept_of_stmts (sited table.now) next.old (stmts_of list.now)) }
-    ensures counts { OnOk result (next.new ≡ next.old + calls_of_stmts (stmts_of list.now)) }
+    ensures { IfOk result (λ made. IsMarked (of_stmts (sited table.now)) (reached next.old kept.old.items) (reached next.new kept.new.items) (stmts_of list.now) (stmts_of made.items)) }
 {
     let mut made = Vec::new(alloc);
     for k in 0..list.len() {
@@ -212,9 +191,7 @@ fn group_list<'p>(
     next: &mut Count,
     kept: &mut Vec<Temporary<'p>>,
 ) -> Result<Vec<Group>, OutOfMemory>
-    ensures tree { IfOk result (λ made. groups_of made.items ≡ marks.groups (sited table.now) next.old (groups_of list.now)) }
-    ensures keeps { OnOk result (temporaries_of kept.new.items ≡ temporaries_of kept.old.items ++ marks.kept_of_groups (sited table.now) next.old (groups_of list.now)) }
-    ensures counts { OnOk result (next.new ≡ next.old + calls_of_groups (groups_of list.now)) }
+    ensures { IfOk result (λ made. IsMarked (of_groups (sited table.now)) (reached next.old kept.old.items) (reached next.new kept.new.items) (groups_of list.now) (groups_of made.items)) }
 {
     let mut made = Vec::new(alloc);
     for k in 0..list.len() {
@@ -232,9 +209,7 @@ fn one_group<'p>(
     next: &mut Count,
     kept: &mut Vec<Temporary<'p>>,
 ) -> Result<Group, OutOfMemory>
-    ensures tree { IfOk result (λ made. group_of made ≡ marks.groups (sited table.now) next.old (group_of g.now)) }
-    ensures keeps { OnOk result (temporaries_of kept.new.items ≡ temporaries_of kept.old.items ++ marks.kept_of_groups (sited table.now) next.old (group_of g.now)) }
-    ensures counts { OnOk result (next.new ≡ next.old + calls_of_groups (group_of g.now)) }
+    ensures { IfOk result (λ made. IsMarkedBefore (of_groups (sited table.now)) (reached next.old kept.old.items) (reached next.new kept.new.items) (group_before g.now) (group_before made)) }
 {
     let labels = copy_labels(alloc, &g.labels)?;
     let body = statement_list(alloc, table, &g.body, next, kept)?;

@@ -1,6 +1,6 @@
 // Items and units (C99 6.9).
 
-ghost use Rattle.std.specs.Prelude.{◌≡◌, ◌+◌, ◌++◌, OnOk, IfOk};
+ghost use Rattle.std.specs.Prelude.{◌≡◌, ◌+◌, OnOk, IfOk};
 ghost use Rattle.c_tree.specs.View.{program_of};
 ghost use Rattle.c_syntax.specs.Tree.{block_stmt, no_block_items};
 ghost use Rattle.c_syntax.specs.UnitView.{stmt_of, item_at, items_of};
@@ -11,9 +11,8 @@ ghost use Rattle.c_syntax.specs.SeenNames.{seen};
 ghost use Rattle.flow_graph.specs.Calls.{AreCallsOf};
 ghost use Rattle.null_calls_expressions.specs.Sited.{sited};
 ghost use Rattle.null_calls_expressions.specs.Instrumented as marks;
-ghost use Rattle.null_calls_expressions.specs.InstrumentedStatements as parts;
 ghost use Rattle.null_calls_expressions.specs.Instrumented.{instrumented_unit, calls_of_item};
-ghost use Rattle.null_calls_expressions.specs.Kept.{temporaries_of};
+ghost use Rattle.null_calls_expressions.specs.Marked.{IsMarked, reached, of_block};
 ghost use Rattle.null_calls.specs.Parts.{items_where};
 
 use crate::statement_nodes::block_node;
@@ -54,9 +53,7 @@ fn alone<'p>(
     next: &mut Count,
     kept: &mut Vec<Temporary<'p>>,
 ) -> Result<Vec<BlockItem>, OutOfMemory>
-    ensures tree { IfOk result (λ made. block_items_of made.items ≡ parts.items_of_block (sited table.now) next.old (block_stmt (stmt_of s.now) no_block_items)) }
-    ensures keeps { OnOk result (temporaries_of kept.new.items ≡ temporaries_of kept.old.items ++ parts.kept_of_block (sited table.now) next.old (block_stmt (stmt_of s.now) no_block_items)) }
-    ensures counts { OnOk result (next.new ≡ next.old + calls_of_block (block_stmt (stmt_of s.now) no_block_items)) }
+    ensures { IfOk result (λ made. IsMarked (of_block (sited table.now)) (reached next.old kept.old.items) (reached next.new kept.new.items) (block_stmt (stmt_of s.now) no_block_items) (block_items_of made.items)) }
 {
     let one = statement(alloc, table, s, next, kept)?;
     let mut made = Vec::new(alloc);
@@ -91,9 +88,7 @@ fn body_items<'p>(
     next: &mut Count,
     kept: &mut Vec<Temporary<'p>>,
 ) -> Result<Vec<BlockItem>, OutOfMemory>
-    ensures tree { IfOk result (λ made. block_items_of made.items ≡ parts.items_of_block (sited table.now) next.old (items_of_body (stmt_of body.now))) }
-    ensures keeps { OnOk result (temporaries_of kept.new.items ≡ temporaries_of kept.old.items ++ parts.kept_of_block (sited table.now) next.old (items_of_body (stmt_of body.now))) }
-    ensures counts { OnOk result (next.new ≡ next.old + calls_of_block (items_of_body (stmt_of body.now))) }
+    ensures { IfOk result (λ made. IsMarked (of_block (sited table.now)) (reached next.old kept.old.items) (reached next.new kept.new.items) (items_of_body (stmt_of body.now)) (block_items_of made.items)) }
 {
     match list_in(body) {
         Some(list) => block_items(alloc, table, list, next, kept),

@@ -1,5 +1,5 @@
 -- Where the value of an operand isn't wanted.
-use Rattle.std.proofs.Common.{◌≡◌, ℕ, Bool, true, false, List, ◌++◌, Option, Some, None, Global, refl, sym, ap, ◌∙◌}
+use Rattle.std.proofs.Common.{◌≡◌, ℕ, Bool, true, false, ◌++◌, Option, Some, None, Global, refl, sym, ap, ◌∙◌}
 use Rattle.std.specs.Prelude.{Box, not, if◌then◌else◌}
 use Rattle.c_syntax.specs.declared.tree.Expr.{Expr as ExprTree}
 use Rattle.c_syntax.specs.declared.tree.ExprKind.{ExprKind, Int, Char, Str, Comma', SizeofType, Cast', Call', Member', Arrow', PostInc', PostDec', PreInc', PreDec', SizeofExpr', Unary', Index', And', Or', Binary', Assign', Cond'}
@@ -17,45 +17,38 @@ use Rattle.c_syntax.specs.Tree.{Spec, void, char, unsigned_char, int, unsigned_i
 use Rattle.c_syntax.specs.Tree.{Expr, a_name, an_int, a_char, a_str, comma, sizeof_type, cast, call, member, postfix, prefix, unary, index, binary, assign, conditional, TypeName}
 use Rattle.c_rules.specs.Counts.{calls}
 use Rattle.null_calls_temporaries.specs.MarkedCalls.{Sites}
-use Rattle.null_calls_temporaries.specs.Temporaries.{Temporary}
 use Rattle.null_calls_temporaries.specs.InstrumentedExpressions.{is_void_type, expr, kept}
 use Rattle.null_calls_expressions.specs.Wanted.{is_left_out}
+use Rattle.null_calls_expressions.specs.Marked.{IsMarked, Reached, of_expr}
+use Rattle.null_calls_expressions.proofs.Turns.{alike, node}
 
 -- the operand of a cast
 either : {A : Type 0} (v : Bool) (f : Bool → A) → (if v then f false else f true) ≡ f (not v)
 either true f = refl
 either false f = refl
 
-pub cast_tree : (sites : Sites) (b : ℕ) (w v : Bool) (at : ℕ) (t : TypeName) (e made : Expr) → v ≡ is_void_type t → made ≡ expr sites b (not v) e → cast at t made ≡ expr sites b w (cast at t e)
-cast_tree sites b w v at t e made is h = ap (cast at t) (h ∙ (ap (λ u. expr sites b (not u) e) is ∙ sym (either (is_void_type t) (λ u. expr sites b u e))))
-
-pub cast_kept : (sites : Sites) (b : ℕ) (w v : Bool) (at : ℕ) (t : TypeName) (e : Expr) (old new : List Temporary) → v ≡ is_void_type t → new ≡ old ++ kept sites b (not v) e → new ≡ old ++ kept sites b w (cast at t e)
-cast_kept sites b w v at t e old new is h = h ∙ ap (λ xs. old ++ xs) (ap (λ u. kept sites b (not u) e) is ∙ sym (either (is_void_type t) (λ u. kept sites b u e)))
+pub cast_made : (sites : Sites) (w v : Bool) {s t : Reached} (at : ℕ) (n : TypeName) {d x whole made : Expr} → v ≡ is_void_type n → IsMarked (of_expr sites (not v)) s t d x → whole ≡ cast at n d → made ≡ cast at n x → IsMarked (of_expr sites w) s t whole made
+cast_made sites w v {s = s} at n {d = d} told p is built =
+    node p (cast at n) is built (ap (cast at n) (either (is_void_type n) (λ u. expr sites s.0 u d) ∙ ap (λ u. expr sites s.0 (not u) d) (sym told))) (either (is_void_type n) (λ u. kept sites s.0 u d) ∙ ap (λ u. kept sites s.0 (not u) d) (sym told)) refl
 
 -- an operator that stays
-inner_stays : (sites : Sites) (b at op place inner : ℕ) (e : Expr) (t : Bool) → t ≡ false
-    → (if t then expr sites b false e else unary at op (unary place inner (expr sites b true e))) ≡ unary at op (unary place inner (expr sites b true e))
-inner_stays sites b at op place inner e true h = absurd cc
-inner_stays sites b at op place inner e false h = refl
-
-inner_kept : (sites : Sites) (b : ℕ) (e : Expr) (t : Bool) → t ≡ false → (if t then kept sites b false e else kept sites b true e) ≡ kept sites b true e
-inner_kept sites b e true h = absurd cc
-inner_kept sites b e false h = refl
-
-pub stays_tree : (sites : Sites) (b : ℕ) (w : Bool) (at op : ℕ) (e : Expr) → is_left_out w op e ≡ false → unary at op (expr sites b true e) ≡ expr sites b w (unary at op e)
-stays_tree sites b false at op (unary place inner e) h = sym (inner_stays sites b at op place inner e _ h)
+stays_tree : (sites : Sites) (b : ℕ) (w : Bool) (at op : ℕ) (e : Expr) → is_left_out w op e ≡ false → unary at op (expr sites b true e) ≡ expr sites b w (unary at op e)
+stays_tree sites b false at op (unary place inner e) h = sym (ap (λ t. if t then expr sites b false e else unary at op (unary place inner (expr sites b true e))) h)
 stays_tree sites b w at op e h = refl
 
-pub stays_kept : (sites : Sites) (b : ℕ) (w : Bool) (at op : ℕ) (e : Expr) → is_left_out w op e ≡ false → kept sites b true e ≡ kept sites b w (unary at op e)
-stays_kept sites b false at op (unary place inner e) h = sym (inner_kept sites b e _ h)
+stays_kept : (sites : Sites) (b : ℕ) (w : Bool) (at op : ℕ) (e : Expr) → is_left_out w op e ≡ false → kept sites b true e ≡ kept sites b w (unary at op e)
+stays_kept sites b false at op (unary place inner e) h = sym (ap (λ t. if t then kept sites b false e else kept sites b true e) h)
 stays_kept sites b w at op e h = refl
 
+pub unary_made : (sites : Sites) (w : Bool) {s t : Reached} (at op : ℕ) {d x whole made : Expr} → is_left_out w op d ≡ false → IsMarked (of_expr sites true) s t d x → whole ≡ unary at op d → made ≡ unary at op x → IsMarked (of_expr sites w) s t whole made
+unary_made sites w {s = s} at op {d = d} stays p is built = node p (unary at op) is built (sym (stays_tree sites s.0 w at op d stays)) (sym (stays_kept sites s.0 w at op d stays)) refl
+
 -- both operators are left out
-pub without_tree : (sites : Sites) (b : ℕ) (w : Bool) (at op place inner : ℕ) (e : Expr) → is_left_out w op (unary place inner e) ≡ true → expr sites b false e ≡ expr sites b w (unary at op (unary place inner e))
+without_tree : (sites : Sites) (b : ℕ) (w : Bool) (at op place inner : ℕ) (e : Expr) → is_left_out w op (unary place inner e) ≡ true → expr sites b false e ≡ expr sites b w (unary at op (unary place inner e))
 without_tree sites b true at op place inner e h = absurd cc
 without_tree sites b false at op place inner e h = sym (ap (λ t. if t then expr sites b false e else unary at op (unary place inner (expr sites b true e))) h)
 
-pub without_kept : (sites : Sites) (b : ℕ) (w : Bool) (at op place inner : ℕ) (e : Expr) → is_left_out w op (unary place inner e) ≡ true → kept sites b false e ≡ kept sites b w (unary at op (unary place inner e))
+without_kept : (sites : Sites) (b : ℕ) (w : Bool) (at op place inner : ℕ) (e : Expr) → is_left_out w op (unary place inner e) ≡ true → kept sites b false e ≡ kept sites b w (unary at op (unary place inner e))
 without_kept sites b true at op place inner e h = absurd cc
 without_kept sites b false at op place inner e h = sym (ap (λ t. if t then kept sites b false e else kept sites b true e) h)
 
@@ -96,7 +89,7 @@ stays_before w op at k never = refl
 
 -- ## An expression where both operators are left out
 
-module _ (sites : Sites) (b : ℕ) (w : Bool) (e : ExprTree) (op : ℕ) (a : Box ExprTree Global) (is : e.kind ≡ Unary op a) (left : true ≡ is_left_out w op (expr_of a.value)) where
+module _ (sites : Sites) (w : Bool) (e : ExprTree) (op : ℕ) (a : Box ExprTree Global) (is : e.kind ≡ Unary op a) (left : true ≡ is_left_out w op (expr_of a.value)) where
   module _ (inner : ℕ) (x : Box ExprTree Global) (under : a.value.kind ≡ Unary inner x) where
     operand_is : expr_of a.value ≡ unary a.value.at inner (expr_of x.value)
     operand_is = ap (expr_at a.value.at) under
@@ -107,14 +100,12 @@ module _ (sites : Sites) (b : ℕ) (w : Bool) (e : ExprTree) (op : ℕ) (a : Box
     left_is : is_left_out w op (unary a.value.at inner (expr_of x.value)) ≡ true
     left_is = ap (is_left_out w op) (sym operand_is) ∙ sym left
 
-    pub alone_tree : expr sites b false (expr_of x.value) ≡ expr sites b w (expr_of e)
-    alone_tree = without_tree sites b w e.at op a.value.at inner (expr_of x.value) left_is ∙ ap (expr sites b w) (sym whole_is)
-
-    pub alone_kept : kept sites b false (expr_of x.value) ≡ kept sites b w (expr_of e)
-    alone_kept = without_kept sites b w e.at op a.value.at inner (expr_of x.value) left_is ∙ ap (kept sites b w) (sym whole_is)
-
-    pub alone_calls : calls (expr_of x.value) ≡ calls (expr_of e)
-    alone_calls = ap calls (sym whole_is)
+    pub alone_made : {s t : Reached} {made : Expr} → IsMarked (of_expr sites false) s t (expr_of x.value) made → IsMarked (of_expr sites w) s t (expr_of e) made
+    alone_made {s = s} p = alike (sym whole_is) (record {
+      tree = p.tree ∙ without_tree sites s.0 w e.at op a.value.at inner (expr_of x.value) left_is;
+      keeps = p.keeps ∙ ap (λ ys. s.1 ++ ys) (without_kept sites s.0 w e.at op a.value.at inner (expr_of x.value) left_is);
+      counts = p.counts;
+    })
 
   pub never_other : ((inner : ℕ) (x : Box ExprTree Global) → a.value.kind ≡ Unary inner x → ⊥) → ⊥
   never_other never = let stays = stays_before w op a.value.at a.value.kind never in cc

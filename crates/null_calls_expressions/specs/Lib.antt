@@ -1,6 +1,7 @@
 pub mod Wanted
 pub mod Lists
 pub mod Operands
+pub mod Marked
 pub use Rattle.null_calls_temporaries.specs.Kept
 pub use Rattle.null_calls_temporaries.specs.Sited
 pub use Rattle.null_calls_temporaries.specs.Instrumented

@@ -28,7 +28,7 @@ use Rattle.null_calls_laws.specs.Counts.{IsName, IsDesignator, AreNamed, Near}
 use Rattle.null_calls_laws.specs.Tabled.{called_by, HasTypes, AreTabled, AreFound}
 use Rattle.null_calls_laws.specs.Follow.{types_of, UnusedFollows, ExprFollows, UnusedExprFollows, Goes, AllGo}
 use Rattle.null_calls_laws.proofs.ExpressionsGo.{expressions_go}
-use Rattle.null_calls_laws.proofs.Leaves.{Holds, same_fine}
+use Rattle.c_rules_laws.proofs.Holding.{Holds, fine_same}
 use Rattle.null_calls_laws.proofs.Solid.{SolidValue}
 use Rattle.null_calls_laws.proofs.Given.{IsSolid}
 use Rattle.null_calls_laws.proofs.Forms.{unused_same}
@@ -55,7 +55,7 @@ module _ (at : ℕ) (e : typed.Expr) (t : CType) (ps : CTypes) where
 
   by_type : (g : TypedExpression) (u : CType) → g.ctype ≡ u → callee_through at (tree_of g) u ≡ fine pointed_to → IsPointer (fine g) e t ps
   by_type g (pointer (function u us)) q h =
-      let c = same_fine {A = Callee} (record { designator = through (tree_of g); returns = u; parameters = us }) pointed_to h in
+      let c = fine_same {A = Callee} (record { designator = through (tree_of g); returns = u; parameters = us }) pointed_to h in
       record { given = g; value = refl; tree = same_through (tree_of g) e (ap (λ f. f.designator) c); pointed = q ∙ ap (λ f. pointer (function f.returns f.parameters)) c }
   by_type g u q h = absurd (cc)
 
@@ -64,7 +64,7 @@ module _ (at : ℕ) (e : typed.Expr) (t : CType) (ps : CTypes) where
   by_value (faulty f fs) h = absurd (cc)
 
   no_function : (place : ℕ) (u : CType) (n : ℕ) → callee_of_type place u n ≡ fine pointed_to → ⊥
-  no_function place (function u us) n h = (let c : direct n ≡ through e = ap (λ f. f.designator) (same_fine {A = Callee} (record { designator = direct n; returns = u; parameters = us }) pointed_to h) in cc)
+  no_function place (function u us) n h = (let c : direct n ≡ through e = ap (λ f. f.designator) (fine_same {A = Callee} (record { designator = direct n; returns = u; parameters = us }) pointed_to h) in cc)
   no_function place u n h = cc
 
   no_use : (place : ℕ) (u : CType) (r : Checked ℕ) → on r (callee_of_type place u) ≡ fine pointed_to → ⊥
@@ -197,9 +197,6 @@ module _ (p : Program) (sites : Sites) (env : Env) (w : More) (plain : AreUnrese
       record { same = s.same; within = omega (arith, q) }
 
   module _ (at : ℕ) (d : Expr) (es : Exprs) (l : Goes p sites env w d) (la : AllGo p sites env w es) where
-    abbrev the_call : Expr
-    the_call = call at d es
-
     abbrev Types : Bool → Before → List CType
     Types wanted b = types_of (kept sites b.sites wanted (call at d es))
 

@@ -25,7 +25,7 @@ use Rattle.c_rules_laws.proofs.Names.{unreserved}
 use Rattle.null_calls_laws.proofs.Scopes.{unadded}
 use Rattle.null_calls_laws.specs.AbstractCasts.{DeclNamesNoType, FirstNamesNoType, StmtNamesNoType, BlockNamesNoType, StmtsNameNoType, GroupsNameNoType, ItemNamesNoType, UnitNamesNoType}
 use Rattle.null_calls_laws.proofs.FunctionTags.{body_tags}
-use Rattle.null_calls_laws.proofs.FileWritten.{form_whole}
+use Rattle.c_rules_laws.proofs.Callers.{form_whole}
 
 abbrev pub IsPlain : Env → Type 0
 IsPlain env = env.whole.mode ≡ Plain
@@ -45,16 +45,13 @@ first_met P r s h = both_hold (λ _. P) Any (λ _. P) r s (λ _ _. fine met) h (
 new_plain : (env : Env) → IsPlain env → (x : Ident) → Holds (λ _. is_reserved x.name ≡ false) (new_name env x)
 new_plain env e x = first_met (is_reserved x.name ≡ false) (free_name env x) _ (first_met (is_reserved x.name ≡ false) (demand (may_be_declared env.whole.mode x.name) 12 x.at met) _ (may_plain env e x))
 
-added_no : (x : Ident) → is_reserved x.name ≡ false → declares_added (Some x) ≡ false
-added_no x h = unadded x.name h
-
 -- ## Declarations in blocks
 
 named_aside : (env : Env) → IsPlain env → (b : Before) (next : Next) (at : ℕ) (s : Spec) (d : Declarator) (m : MaybeInit) (o : Option Ident) → Holds (λ _. declares_added o ≡ false) (local_named env b next at s d m o)
 named_aside env e b next at s d m None = tt
 named_aside env e b next at s d m (Some x) =
     alone_holds (λ _. declares_added (Some x) ≡ false) (is_given env x.name (type_declared env at s d)) 3 (place_or at d) (local env b next x m (object_declared env at s d x m))
-    (both_hold (λ _. is_reserved x.name ≡ false) Any (λ _. declares_added (Some x) ≡ false) (new_name env x) _ (λ _ p. fine p) (new_plain env e x) (anything _) (λ _ _ h _. added_no x h))
+    (both_hold (λ _. is_reserved x.name ≡ false) Any (λ _. declares_added (Some x) ≡ false) (new_name env x) _ (λ _ p. fine p) (new_plain env e x) (anything _) (λ _ _ h _. unadded x.name h))
 
 decl_aside : (d : Decl) (env : Env) → IsPlain env → DeclNamesNoType d → (b : Before) (next : Next) → Holds (λ _. tags_of_decl true d ≡ tags_of_decl false d) (local_decl env b next d)
 decl_aside (decl at class s no_parts) env e l b next = absurd l.0
@@ -141,11 +138,11 @@ part_aside env e b at class s d m None = tt
 part_aside env e b at class s d m (Some x) = by_kind (declares_function d)
   where
     by_global : (k : Bool) (r : Checked Object) → Holds (λ _. is_reserved x.name ≡ false) r → Holds (λ _. declares_added (Some x) ≡ false) (global env k b x m r)
-    by_global false r h = on_holds (λ _. is_reserved x.name ≡ false) (λ _. declares_added (Some x) ≡ false) r _ h (λ _ l. added_no x l)
-    by_global true r h = on_holds (λ _. is_reserved x.name ≡ false) (λ _. declares_added (Some x) ≡ false) r _ h (λ o l. always (declares_added (Some x) ≡ false) _ (added_no x l))
+    by_global false r h = on_holds (λ _. is_reserved x.name ≡ false) (λ _. declares_added (Some x) ≡ false) r _ h (λ _ l. unadded x.name l)
+    by_global true r h = on_holds (λ _. is_reserved x.name ≡ false) (λ _. declares_added (Some x) ≡ false) r _ h (λ o l. always (declares_added (Some x) ≡ false) _ (unadded x.name l))
 
     by_kind : (t : Bool) → Holds (λ _. declares_added (Some x) ≡ false) (declared_part env b at class s d m t x)
-    by_kind true = both_hold (λ _. is_reserved x.name ≡ false) Any (λ _. declares_added (Some x) ≡ false) (function_declared env false at s d x) (without_init m) _ (function_plain env e false at s d x) (anything _) (λ _ _ h _. added_no x h)
+    by_kind true = both_hold (λ _. is_reserved x.name ≡ false) Any (λ _. declares_added (Some x) ≡ false) (function_declared env false at s d x) (without_init m) _ (function_plain env e false at s d x) (anything _) (λ _ _ h _. unadded x.name h)
     by_kind false = by_global (defines class m) (global_declared env (defines class m) b at s d x m) (global_plain env e (defines class m) b at s d x m)
 
 file_decl_aside : (d : Decl) (env : Env) → IsPlain env → DeclNamesNoType d → (b : Before) → Holds (λ _. tags_of_decl true d ≡ tags_of_decl false d) (file_decl env b d)

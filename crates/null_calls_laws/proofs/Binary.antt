@@ -25,7 +25,8 @@ use Rattle.null_calls_laws.specs.InstrumentedPrograms.{expr, kept}
 use Rattle.null_calls_laws.specs.WithoutSites.{unsited}
 use Rattle.c_rules_laws.specs.ConstantForm.{IsConst}
 use Rattle.null_calls_laws.specs.Remade.{remade, IsRemade, Follows, IsOperand}
-use Rattle.null_calls_laws.proofs.Constants.{none_both, integer_const, binary_const, and_const, or_const, conditional_const, moved_const}
+use Rattle.c_rules_laws.proofs.GatheredOfTypedExpressions.{none_both}
+use Rattle.c_rules_laws.proofs.ConstantForms.{integer_const, two_const, binary_const, and_const, or_const, conditional_const, moved_const}
 use Rattle.null_calls_laws.proofs.Operands.{operand, value_remade, demand_follows, behind_follows, on_follows, if_follows, converted_operand, null_operand, assigned_operand}
 use Rattle.null_calls_laws.proofs.Unary.{place_at_follows}
 
@@ -46,12 +47,6 @@ module _ (p : Program) (k : ℕ) (ts us : List CType) where
 
   abbrev Goes : Checked TypedExpression → Checked TypedExpression → Type 0
   Goes r s = Follows p k (ts ++ us) r s
-
-  first : (g : TypedExpression) (x : Expr) → SameFirst g x → First g (remade g x)
-  first g x h = operand p k ts g x h
-
-  second : (g : TypedExpression) (x : Expr) → SameSecond g x → Second g (remade g x)
-  second g x h = operand p (k + length ts) us g x h
 
   -- a form whose temporaries are those of its two operands
   operated_follows : (t : CType) (c : Expr → Expr → Expr) → ((v w : Expr) → kept p true (c v w) ≡ kept p true v ++ kept p true w) → ((v w : Expr) → unsited (c v w) ≡ c (unsited v) (unsited w))
@@ -85,17 +80,17 @@ module _ (p : Program) (k : ℕ) (ts us : List CType) where
   pointers_follow o a a' b b' g h = operated_follows int (typed.comparison int o) (λ _ _. refl) (λ _ _. refl) (λ _ _. refl) a a' b b' not_constant not_constant g h (λ c. absurd c) refl
 
   plus_follows : (t : CType) (a b : TypedExpression) (x y : Expr) → SameFirst a x → SameSecond b y → Goes (fine (pointer_plus t a b)) (fine (pointer_plus t (remade a x) (remade b y)))
-  plus_follows t a b x y g h = operated_follows (pointer t) (typed.pointer_add (pointer t) true false) (λ _ _. refl) (λ _ _. refl) (λ _ _. refl) a (remade a x) b (remade b y) _ _ (first a x g) (second b y h) (moved_const a.constant (λ z. z) b.constant) refl
+  plus_follows t a b x y g h = operated_follows (pointer t) (typed.pointer_add (pointer t) true false) (λ _ _. refl) (λ _ _. refl) (λ _ _. refl) a (remade a x) b (remade b y) _ _ (operand p k ts a x g) (operand p (k + length ts) us b y h) (moved_const a.constant (λ z. z) b.constant) refl
 
   turned_follows : (t : CType) (a b : TypedExpression) (x y : Expr) → SameFirst a x → SameSecond b y → Goes (fine (plus_pointer t a b)) (fine (plus_pointer t (remade a x) (remade b y)))
   turned_follows t a b x y g h =
-      operated_follows (pointer t) (typed.pointer_add (pointer t) false false) (λ _ _. refl) (λ _ _. refl) (λ _ _. refl) a (remade a x) b (remade b y) _ _ (first a x g) (second b y h) (λ z. (let w = moved_const b.constant (λ z. z) a.constant z in (w.1, w.0))) refl
+      operated_follows (pointer t) (typed.pointer_add (pointer t) false false) (λ _ _. refl) (λ _ _. refl) (λ _ _. refl) a (remade a x) b (remade b y) _ _ (operand p k ts a x g) (operand p (k + length ts) us b y h) (λ z. (let w = moved_const b.constant (λ z. z) a.constant z in (w.1, w.0))) refl
 
   less_follows : (t : CType) (a b : TypedExpression) (x y : Expr) → SameFirst a x → SameSecond b y → Goes (fine (pointer_minus t a b)) (fine (pointer_minus t (remade a x) (remade b y)))
-  less_follows t a b x y g h = operated_follows (pointer t) (typed.pointer_add (pointer t) true true) (λ _ _. refl) (λ _ _. refl) (λ _ _. refl) a (remade a x) b (remade b y) _ _ (first a x g) (second b y h) (moved_const a.constant (λ z. neg_ℤ z) b.constant) refl
+  less_follows t a b x y g h = operated_follows (pointer t) (typed.pointer_add (pointer t) true true) (λ _ _. refl) (λ _ _. refl) (λ _ _. refl) a (remade a x) b (remade b y) _ _ (operand p k ts a x g) (operand p (k + length ts) us b y h) (moved_const a.constant (λ z. neg_ℤ z) b.constant) refl
 
   difference_follows : (a b : TypedExpression) (x y : Expr) → SameFirst a x → SameSecond b y → Goes (fine (difference a b)) (fine (difference (remade a x) (remade b y)))
-  difference_follows a b x y g h = operated_follows int (typed.pointer_diff int) (λ _ _. refl) (λ _ _. refl) (λ _ _. refl) a (remade a x) b (remade b y) not_constant not_constant (first a x g) (second b y h) (λ c. absurd c) refl
+  difference_follows a b x y g h = operated_follows int (typed.pointer_diff int) (λ _ _. refl) (λ _ _. refl) (λ _ _. refl) a (remade a x) b (remade b y) not_constant not_constant (operand p k ts a x g) (operand p (k + length ts) us b y h) (λ c. absurd c) refl
 
   sum_of_follows : (env : Env) (at : ℕ) (a b : TypedExpression) (x y : Expr) (d e : Kind) → SameFirst a x → SameSecond b y → Goes (sum_of env at a b d e) (sum_of env at (remade a x) (remade b y) d e)
   sum_of_follows env at a b x y (an_integer i) (an_integer j) g h = shifted_follows op.Add (common i j) (common i j) a b x y g h
@@ -125,7 +120,7 @@ module _ (p : Program) (k : ℕ) (ts us : List CType) where
   ordered_follows env at o a b x y (an_integer i) (an_integer j) g h = compared_follows o (common i j) a b x y g h
   ordered_follows env at o a b x y (a_pointer t) (a_pointer u) g h =
       behind_follows p k (ts ++ us) (demand (same_type t u) 3 at met) (λ _. gives (complete env at t) (λ _. compared_pointers o a b)) (λ _. gives (complete env at t) (λ _. compared_pointers o (remade a x) (remade b y)))
-      (λ _. behind_follows p k (ts ++ us) (complete env at t) _ _ (λ _. pointers_follow o a (remade a x) b (remade b y) (first a x g) (second b y h)))
+      (λ _. behind_follows p k (ts ++ us) (complete env at t) _ _ (λ _. pointers_follow o a (remade a x) b (remade b y) (operand p k ts a x g) (operand p (k + length ts) us b y h)))
   ordered_follows env at o a b x y d e g h = tt
 
   -- ## Operands that are made alike
@@ -141,13 +136,13 @@ module _ (p : Program) (k : ℕ) (ts us : List CType) where
 
   module _ (a b : TypedExpression) (x y : Expr) (g : SameFirst a x) (h : SameSecond b y) where
     as_they_are : AlikeRemade (alike_pointers a b) (alike_pointers (remade a x) (remade b y))
-    as_they_are = (remade a x, remade b y, refl, first a x g, second b y h)
+    as_they_are = (remade a x, remade b y, refl, operand p k ts a x g, operand p (k + length ts) us b y h)
 
     null_first : is_null a ≡ true → AlikeRemade (alike_pointers (null_of b.ctype) b) (alike_pointers (null_of b.ctype) (remade b y))
-    null_first e = (null_of b.ctype, remade b y, refl, null_operand p k ts b.ctype a x e g, second b y h)
+    null_first e = (null_of b.ctype, remade b y, refl, null_operand p k ts b.ctype a x e g, operand p (k + length ts) us b y h)
 
     null_second : is_null b ≡ true → AlikeRemade (alike_pointers a (null_of a.ctype)) (alike_pointers (remade a x) (null_of a.ctype))
-    null_second e = (remade a x, null_of a.ctype, refl, first a x g, null_operand p (k + length ts) us a.ctype b y e h)
+    null_second e = (remade a x, null_of a.ctype, refl, operand p k ts a x g, null_operand p (k + length ts) us a.ctype b y e h)
 
     pointers_alike_remade : AlikeRemade (pointers_alike a b) (pointers_alike (remade a x) (remade b y))
     pointers_alike_remade =
@@ -182,14 +177,11 @@ module _ (p : Program) (k : ℕ) (ts us : List CType) where
   operation_of_follows env at o a b x y ordering g h = ordered_follows env at o a b x y (kind_of a.ctype) (kind_of b.ctype) g h
   operation_of_follows env at o a b x y equality g h = equality_follows a b x y g h at o (alike a b) (alike (remade a x) (remade b y)) (alike_remade a b x y g h)
 
-  two_scalars : (a b : TypedExpression) (f : Constant → Constant → Constant) → ((c d : Constant) → IsConst (f c d) → IsConst c × IsConst d) → IsConst (f (integer_constant a) (integer_constant b)) → IsConst a.constant × IsConst b.constant
-  two_scalars a b f l c = (let w = l (integer_constant a) (integer_constant b) c in (integer_const (is_integer a.ctype) a.constant w.0, integer_const (is_integer b.ctype) b.constant w.1))
-
   pub infix_follows : (env : Env) (at : ℕ) (o : Infix) (a b : TypedExpression) (x y : Expr) → SameFirst a x → SameSecond b y → Goes (infix_rule env at o a b) (infix_rule env at o (remade a x) (remade b y))
   infix_follows env at and a b x y g h =
-      demand_follows p k (ts ++ us) (both_scalars a b) 3 at _ _ (operated_follows int (typed.and int) (λ _ _. refl) (λ _ _. refl) (λ _ _. refl) a (remade a x) b (remade b y) _ _ (first a x g) (second b y h) (two_scalars a b constant_and and_const) refl)
+      demand_follows p k (ts ++ us) (both_scalars a b) 3 at _ _ (operated_follows int (typed.and int) (λ _ _. refl) (λ _ _. refl) (λ _ _. refl) a (remade a x) b (remade b y) _ _ (operand p k ts a x g) (operand p (k + length ts) us b y h) (two_const a b constant_and and_const) refl)
   infix_follows env at or a b x y g h =
-      demand_follows p k (ts ++ us) (both_scalars a b) 3 at _ _ (operated_follows int (typed.or int) (λ _ _. refl) (λ _ _. refl) (λ _ _. refl) a (remade a x) b (remade b y) _ _ (first a x g) (second b y h) (two_scalars a b constant_or or_const) refl)
+      demand_follows p k (ts ++ us) (both_scalars a b) 3 at _ _ (operated_follows int (typed.or int) (λ _ _. refl) (λ _ _. refl) (λ _ _. refl) a (remade a x) b (remade b y) _ _ (operand p k ts a x g) (operand p (k + length ts) us b y h) (two_const a b constant_or or_const) refl)
   infix_follows env at (operator code) a b x y g h = operation_of_follows env at (operator_of_code code) a b x y (kind_of_operator (operator_of_code code)) g h
 
   -- ## Assignments
@@ -202,17 +194,17 @@ module _ (p : Program) (k : ℕ) (ts us : List CType) where
   assignment_follows at a b x y g h =
       let b2 : TypedExpression = assigned a.ctype (remade b y) in
       subst (λ z. Goes (assignment at a b) (demand z 3 at (typed_value a.ctype (typed.assign a.ctype (tree_of (remade a x)) (tree_of b2)) not_constant))) (sym (fits_same a.ctype (kind_of a.ctype) b y))
-      (demand_follows p k (ts ++ us) (fits a.ctype b) 3 at _ _ (operated_follows a.ctype (typed.assign a.ctype) (λ _ _. refl) (λ _ _. refl) (λ _ _. refl) a (remade a x) (assigned a.ctype b) b2 not_constant not_constant (first a x g) (assigned_operand p (k + length ts) us a.ctype b y h) (λ c. absurd c) refl))
+      (demand_follows p k (ts ++ us) (fits a.ctype b) 3 at _ _ (operated_follows a.ctype (typed.assign a.ctype) (λ _ _. refl) (λ _ _. refl) (λ _ _. refl) a (remade a x) (assigned a.ctype b) b2 not_constant not_constant (operand p k ts a x g) (assigned_operand p (k + length ts) us a.ctype b y h) (λ c. absurd c) refl))
 
   updated_follows : (o : BinOp) (old : Bool) (a b b' : TypedExpression) (x : Expr) → SameFirst a x → Second b b' → Goes (fine (updated o old a (tree_of b))) (fine (updated o old (remade a x) (tree_of b')))
-  updated_follows o old a b b' x g n = operated_follows a.ctype (typed.update a.ctype o old) (λ _ _. refl) (λ _ _. refl) (λ _ _. refl) a (remade a x) b b' not_constant not_constant (first a x g) n (λ c. absurd c) refl
+  updated_follows o old a b b' x g n = operated_follows a.ctype (typed.update a.ctype o old) (λ _ _. refl) (λ _ _. refl) (λ _ _. refl) a (remade a x) b b' not_constant not_constant (operand p k ts a x g) n (λ c. absurd c) refl
 
   update_follows : (env : Env) (at : ℕ) (o : BinOp) (old : Bool) (a b : TypedExpression) (x y : Expr) (d e : Kind) → SameFirst a x → SameSecond b y → Goes (update_of env at o old a b d e) (update_of env at o old (remade a x) (remade b y) d e)
   update_follows env at o old a b x y (an_integer i) (an_integer j) g h =
       (let r : IntType = right_type (kind_of_operator o) i j in updated_follows o old a (converted_to r b) (converted_to r (remade b y)) x g (converted_operand p (k + length ts) us r b y h))
   update_follows env at o old a b x y (a_pointer t) (an_integer j) g h =
       behind_follows p k (ts ++ us) (demand (moves o) 3 at met) (λ _. gives (complete env at t) (λ _. updated o old a (tree_of b))) (λ _. gives (complete env at t) (λ _. updated o old (remade a x) (tree_of (remade b y))))
-      (λ _. behind_follows p k (ts ++ us) (complete env at t) _ _ (λ _. updated_follows o old a b (remade b y) x g (second b y h)))
+      (λ _. behind_follows p k (ts ++ us) (complete env at t) _ _ (λ _. updated_follows o old a b (remade b y) x g (operand p (k + length ts) us b y h)))
   update_follows env at o old a b x y d e g h = tt
 
   pub assignment_by_follows : (env : Env) (at code : ℕ) (a b : TypedExpression) (x y : Expr) → SameFirst a x → SameSecond b y → Goes (assignment_by env at code a b) (assignment_by env at code (remade a x) (remade b y))

@@ -1,6 +1,6 @@
 -- The calls of an expression that is fine stand at their sites, where those of its tree stand in the table of the program.
-use Rattle.std.proofs.Common.{◌≡◌, ℕ, suc, ◌+◌, ◌<◌, Bool, true, false, if◌then◌else◌, List, [], ◌∷◌, ◌++◌, length, Option, Some, None, map, length-append, nat_eq, nat_lt, refl, ap, sym, subst, ◌∙◌, arith}
-use Rattle.std.proofs.lemmas.Bool.{leb-true, cond_both}
+use Rattle.std.proofs.Common.{◌≡◌, inl, inr, ℕ, suc, ◌+◌, ◌<◌, Bool, true, false, if◌then◌else◌, List, [], ◌∷◌, ◌++◌, length, Option, Some, None, map, length-append, nat_eq, nat_lt, refl, ap, sym, subst, ◌∙◌, arith}
+use Rattle.std.proofs.lemmas.Bool.{leb-true, cond_both, cases_lt}
 use Rattle.std.proofs.lemmas.Bool.Decides.{Decides-ltb}
 use Rattle.std.proofs.lemmas.List.{length-map}
 use Rattle.dm_base.specs.declared.mode.Mode.{Mode}
@@ -19,11 +19,11 @@ use Rattle.c_rules.specs.Checked.{Checked, fine, on, both, all_three}
 use Rattle.c_rules.specs.Names.{Name}
 use Rattle.c_rules.specs.Limits.{most_calls}
 use Rattle.c_rules.specs.Types.{is_scalar, count}
-use Rattle.c_rules.specs.Scopes.{Env, Meaning, a_static, a_function, unknown, Context, evaluated, sized, in_context, Before, nothing_before, binding_of}
-use Rattle.c_rules.specs.Counts.{place_of, calls, after, after_designator}
+use Rattle.c_rules.specs.Scopes.{Env, Context, evaluated, sized, in_context, Before, nothing_before, binding_of}
+use Rattle.c_rules.specs.Counts.{place_of, calls, calls_of_all, after, after_designator}
 use Rattle.c_rules.specs.TypedExpression.{TypedExpression, tree_of}
 use Rattle.c_rules.specs.Conversions.{valued}
-use Rattle.c_rules.specs.PrimaryExpressions.{used, object_number, function_number, function_value_number, meant, integer_expression, string_fits}
+use Rattle.c_rules.specs.PrimaryExpressions.{used, function_number, integer_expression, string_fits}
 use Rattle.c_rules.specs.PostfixExpressions.{Designator, direct, through, Callee, site_in, site_of, callee_of_type, callee_through, callee_by_value, called, member_of}
 use Rattle.c_rules.specs.UnaryExpressions.{address, indirection, unary_of_value, size_of, size_of_expression, size_of_type, cast_of, null_cast}
 use Rattle.c_rules.specs.BinaryExpressions.{sum, choice}
@@ -40,15 +40,15 @@ use Rattle.c_rules_laws.proofs.MadeTypes.{result_is}
 use Rattle.c_rules_laws.proofs.Operators.{bound_holds, callee_holds}
 use Rattle.null_calls_laws.proofs.FunctionPlaces.{get_left}
 use Rattle.null_calls_laws.specs.CallsIn.{calls_in, all_calls}
-use Rattle.null_calls_laws.specs.ClosedTypes.{CalledTypeHas, CalleeHas}
+use Rattle.c_rules_laws.specs.ClosedTypes.{CalledTypeHas, CalleeHas}
 use Rattle.null_calls_laws.specs.WrittenTypes.{Written, IsValueType}
 use Rattle.null_calls_laws.specs.AbstractCasts.{NamesNoType, NameNoTypes}
 use Rattle.null_calls_laws.specs.Scopes.{IsWrittenScope}
 use Rattle.null_calls_laws.proofs.Closed.{written_closed}
-use Rattle.null_calls_laws.proofs.Kept.{CalledGood, CallsGood, AllGood}
-use Rattle.null_calls_laws.proofs.TypesOfExpressions.{callee_typed, value_typed}
+use Rattle.null_calls_laws.proofs.Kept.{CalledGood, CallsGood}
+use Rattle.c_rules_laws.proofs.TypesOfExpressions.{callee_typed, value_typed}
 use Rattle.null_calls_laws.proofs.Tables.{Table, InTable, in_first, in_rest}
-use Rattle.c_rules_laws.proofs.GatheredOfTypedExpressions.{called_at, Gathers, AllGather, CalleeGathers, valued_gathered, called_gathered, callee_type_gathered, callee_through_gathered, member_gathered, address_gathered, indirection_gathered, unary_gathered, size_gathered, cast_of_gathered, null_cast_gathered, sum_gathered, infix_gathered, assignment_by_gathered, step_gathered, choice_gathered, comma_gathered}
+use Rattle.c_rules_laws.proofs.GatheredOfTypedExpressions.{called_at, Gathers, AllGather, CalleeGathers, meant_gathered, valued_gathered, called_gathered, callee_type_gathered, callee_through_gathered, member_gathered, address_gathered, indirection_gathered, unary_gathered, size_gathered, cast_of_gathered, null_cast_gathered, sum_gathered, infix_gathered, assignment_by_gathered, step_gathered, choice_gathered, comma_gathered}
 use Rattle.c_rules_laws.specs.ConstantForm.{IsConst}
 
 -- what a call has
@@ -127,12 +127,6 @@ module _ (T : Table) where
   cast_tells X true at t r h = one_tells X r (null_cast at) h (λ g xs s. null_cast_gathered all_calls at xs g s)
   cast_tells X false at t r h =
       both_hold Any (Tells X) (Tells X) t r (cast_of at) (anything t) h (λ u g _ w. holds_map (Gathers all_calls (calls_in (tree_of g))) (Tells X) (λ a s. told X (calls_in (tree_of g)) a w.1 s) (cast_of at u g) (cast_of_gathered all_calls at (calls_in (tree_of g)) u g (as_sites X g w)))
-
-  meant_tells : (env : Env) (at : ℕ) (x : Name) (m : Meaning) → Holds (Gathers all_calls []) (meant env at x m)
-  meant_tells env at x (a_static seen whole d) = after_part (Gathers all_calls []) (used env.context at (object_number env x)) _ (λ _. (refl, λ _. refl))
-  meant_tells env at x (a_function t d) = after_part (Gathers all_calls []) (function_value_number env at x) _ (λ _. (refl, λ _. refl))
-  meant_tells env at x (unknown f fs) = tt
-  meant_tells env at x m = (refl, λ _. refl)
 
   integer_tells : (n : ℕ) (u : Bool) → Gathers all_calls [] (integer_expression n u)
   integer_tells n u = integer_cases (Gathers all_calls []) n u (λ _. (refl, λ _. refl)) (refl, λ _. refl)
@@ -224,15 +218,29 @@ module _ (p : Program) (enums tags stood : List Name) where
   abbrev sites : Sites
   sites = sites_of p
 
-  abbrev Good : (before : ℕ) → Expr → Type 0
+  abbrev Good : (lo n : ℕ) → Type 0
   Good = CallsGood enums tags stood sites
+
+  no_calls : (lo : ℕ) → Good lo 0
+  no_calls lo = λ s l m. absurd (omega (arith, l, m))
+
+  more_calls : (lo m n : ℕ) → Good lo m → Good (lo + m) n → Good lo (m + n)
+  more_calls lo m n h k = λ s l q. elim (cases_lt s (lo + m)) as (λ _. CalledGood enums tags stood s (sites s)) [ inl f ↦ h s l f | inr r ↦ k s r (omega (arith, q)) ]
+
+  -- a call, between its designator and its arguments
+  one_call : (lo m n : ℕ) → Good lo m → CalledGood enums tags stood (lo + m) (sites (lo + m)) → Good (lo + suc m) n → Good lo (m + suc n)
+  one_call lo m n h c k =
+      more_calls lo m (suc n) h (λ s l q. elim (cases_lt (lo + m) s) as (λ _. CalledGood enums tags stood s (sites s)) [
+        | inl f ↦ k s (omega (arith, f)) (omega (arith, q))
+        | inr r ↦ (let e : lo + m ≡ s = omega (arith, l, r) in subst (λ s. CalledGood enums tags stood s (sites s)) e c)
+      ])
 
   -- each call of the expression stands at its site, names what it calls, and calls something of a type that declarators make
   abbrev pub Passes : Env → Before → Expr → Type 0
-  Passes env b x = AreTabled p sites env b x × AreNamed sites b.sites x × Good b.sites x
+  Passes env b x = AreTabled p sites env b x × AreNamed sites b.sites x × Good b.sites (calls x)
 
   abbrev pub AllPass : Env → Before → Exprs → Type 0
-  AllPass env b xs = AllTabled p sites env b xs × AllNamed sites b.sites xs × AllGood enums tags stood sites b.sites xs
+  AllPass env b xs = AllTabled p sites env b xs × AllNamed sites b.sites xs × Good b.sites (calls_of_all xs)
 
   abbrev Scope : Env → Type 0
   Scope = IsWrittenScope p enums tags stood
@@ -250,7 +258,7 @@ module _ (p : Program) (enums tags stood : List Name) where
   callee_tells env b at d r h =
       callee_holds (λ e. CalleeTells (Passes env b e)) env at d r (by_value_tells (Passes env b d) at r h)
       (λ place x c t k _ _. after_part (CalleeTells (Passes env b (a_name place x))) (used env.context place (function_number env x)) (callee_of_type place t)
-      (λ n. holds_map (CalleeGathers all_calls []) (CalleeTells (Passes env b (a_name place x))) (λ f s. ([], s, λ _. (tt, tt, tt))) (callee_of_type place t n) (callee_type_gathered all_calls place t n)))
+      (λ n. holds_map (CalleeGathers all_calls []) (CalleeTells (Passes env b (a_name place x))) (λ f s. ([], s, λ _. (tt, tt, no_calls b.sites))) (callee_of_type place t n) (callee_type_gathered all_calls place t n)))
 
   site_is : (c : Context) → c ≡ evaluated → (m : Mode) → m ≡ Plain → (n at : ℕ) → Holds (λ k. (k ≡ n) × (n < 10000)) (site_in c (most_calls m) n at)
   site_is evaluated e Plain f n at = demand_holds (λ k. (k ≡ n) × (n < 10000)) (nat_lt n 10000) 13 at n (λ q. (refl, (Decides-ltb n 10000).0 q))
@@ -296,20 +304,20 @@ module _ (p : Program) (enums tags stood : List Name) where
       let y = in_rest T c.0 (Calls s (shape_of f.designator) ∷ g.0) t in
       let z : AllPass env b1 es = g.2 y.1 in
       let entry : T (b.sites + calls d) ≡ Some (shape_of f.designator) = subst (λ k. T k ≡ Some (shape_of f.designator)) n.0 y.0 in
-      ((called_there env w b at d f ef entry n.1, x.0, z.0), (named_there env w b at d f ef entry n.1, x.1, subst (λ k. AllNamed sites k es) later z.1), (good_there env w b at d f ef entry n.1, x.2, subst (λ k. AllGood enums tags stood sites k es) later z.2)))) q)
+      ((called_there env w b at d f ef entry n.1, x.0, z.0), (named_there env w b at d f ef entry n.1, x.1, subst (λ k. AllNamed sites k es) later z.1), one_call b.sites (calls d) (calls_of_all es) x.2 (good_there env w b at d f ef entry n.1) z.2))) q)
       (called at f s gs) (subst (λ k. Holds (Gathers all_calls (c.0 ++ k ∷ g.0)) (called at f s gs)) (called_is s f.designator) (called_gathered all_calls at c.0 g.0 f s gs c.1 g.1))))
 
   mutual
     pub tree_passes : (x : Expr) (env : Env) → Scope env → (b : Before) → NamesNoType x → Holds (Tells T (Passes env b x)) (tree env b x)
-    tree_passes (a_name at x) env w b l = holds_map (Gathers all_calls []) (Tells T (Passes env b (a_name at x))) (λ g s. none_tells T (Passes env b (a_name at x)) g (tt, tt, tt) s) (tree env b (a_name at x)) (bound_holds (Gathers all_calls []) env at x (binding_of env x) (λ c _. meant_tells T env at x c.means))
-    tree_passes (an_int at n u) env w b l = none_tells T (Passes env b (an_int at n u)) (integer_expression n u) (tt, tt, tt) (integer_tells T n u)
-    tree_passes (a_char at c) env w b l = (λ _. refl, λ _. (tt, tt, tt))
-    tree_passes (a_str at s) env w b l = after_part (Tells T (Passes env b (a_str at s))) (string_fits env.context at b.cells (suc (length s))) _ (λ _. (λ _. refl, λ _. (tt, tt, tt)))
+    tree_passes (a_name at x) env w b l = holds_map (Gathers all_calls []) (Tells T (Passes env b (a_name at x))) (λ g s. none_tells T (Passes env b (a_name at x)) g (tt, tt, no_calls b.sites) s) (tree env b (a_name at x)) (bound_holds (Gathers all_calls []) env at x (binding_of env x) (λ c _. meant_gathered all_calls (λ _. refl) env at x c.means))
+    tree_passes (an_int at n u) env w b l = none_tells T (Passes env b (an_int at n u)) (integer_expression n u) (tt, tt, no_calls b.sites) (integer_tells T n u)
+    tree_passes (a_char at c) env w b l = (λ _. refl, λ _. (tt, tt, no_calls b.sites))
+    tree_passes (a_str at s) env w b l = after_part (Tells T (Passes env b (a_str at s))) (string_fits env.context at b.cells (suc (length s))) _ (λ _. (λ _. refl, λ _. (tt, tt, no_calls b.sites)))
     tree_passes (comma at es) env w b l =
         on_holds (TypedExpressionsTell (AllPass env b es)) (Tells T (Passes env b (comma at es))) (trees env b es) (λ gs. fine (comma_of gs)) (trees_pass es env w b l) (λ gs k. told T (Passes env b (comma at es)) k.0 (comma_of gs) k.2 (comma_gathered all_calls gs k.0 k.1))
     tree_passes (sizeof_type at t) env w b l =
         after_part (Tells T (Passes env b (sizeof_type at t))) (type_named env t) (size_of_type env at (place_of_type t))
-        (λ u. holds_map (Gathers all_calls []) (Tells T (Passes env b (sizeof_type at t))) (λ g s. none_tells T (Passes env b (sizeof_type at t)) g (tt, tt, tt) s) (size_of env at (place_of_type t) u) (size_gathered all_calls env at (place_of_type t) u))
+        (λ u. holds_map (Gathers all_calls []) (Tells T (Passes env b (sizeof_type at t))) (λ g s. none_tells T (Passes env b (sizeof_type at t)) g (tt, tt, no_calls b.sites) s) (size_of env at (place_of_type t) u) (size_gathered all_calls env at (place_of_type t) u))
     tree_passes (cast at t e) env w b l =
         cast_tells T (Passes env b (cast at t e)) (is_void_pointer t) at (type_named env t) (value_at env (place_of e) (tree env b e))
         (holds_map (Tells T (Passes env b e)) (Tells T (Passes env b (cast at t e))) (λ g k. (k.0, λ z. (let y = k.1 z in ((l.0, y.0), y.1, y.2)))) (value_at env (place_of e) (tree env b e)) (value_tells T (Passes env b e) env (place_of e) (tree env b e) (tree_passes e env w b l.1)))
@@ -320,31 +328,31 @@ module _ (p : Program) (enums tags stood : List Name) where
     tree_passes (prefix at pre_decrement e) env w b l = one_tells T (Passes env b e) (place_at (place_of e) (tree env b e)) (step env at Sub false) (place_tells T (Passes env b e) (place_of e) (tree env b e) (tree_passes e env w b l)) (λ g xs s. step_gathered all_calls env at Sub false xs g s)
     tree_passes (prefix at sizeof e) env w b l =
         after_part (Tells T (Passes env b (prefix at sizeof e))) (tree (in_context env sized) nothing_before e) (size_of_expression env at)
-        (λ g. holds_map (Gathers all_calls []) (Tells T (Passes env b (prefix at sizeof e))) (λ h s. none_tells T (Passes env b (prefix at sizeof e)) h (tt, tt, tt) s) (size_of env at at g.ctype) (size_gathered all_calls env at at g.ctype))
+        (λ g. holds_map (Gathers all_calls []) (Tells T (Passes env b (prefix at sizeof e))) (λ h s. none_tells T (Passes env b (prefix at sizeof e)) h (tt, tt, no_calls b.sites) s) (size_of env at at g.ctype) (size_gathered all_calls env at at g.ctype))
     tree_passes (unary at o e) env w b l = unary_tells T (Passes env b e) env at (place_of e) o (tree env b e) (tree_passes e env w b l)
     tree_passes (index at e f) env w b l =
         one_tells T (Passes env b (index at e f)) (both (value_at env (place_of e) (tree env b e)) (value_at env (place_of f) (tree env (after b e) f)) (sum env at)) (indirection at)
-        (two_tell T (Passes env b e) (Passes env (after b e) f) (Passes env b (index at e f)) (value_at env (place_of e) (tree env b e)) (value_at env (place_of f) (tree env (after b e) f)) (sum env at) (λ x y. ((x.0, y.0), (x.1, y.1), (x.2, y.2)))
+        (two_tell T (Passes env b e) (Passes env (after b e) f) (Passes env b (index at e f)) (value_at env (place_of e) (tree env b e)) (value_at env (place_of f) (tree env (after b e) f)) (sum env at) (λ x y. ((x.0, y.0), (x.1, y.1), more_calls b.sites (calls e) (calls f) x.2 y.2))
         (value_tells T (Passes env b e) env (place_of e) (tree env b e) (tree_passes e env w b l.0)) (value_tells T (Passes env (after b e) f) env (place_of f) (tree env (after b e) f) (tree_passes f env w (after b e) l.1)) (λ g h xs ys s t. sum_gathered all_calls xs ys env at g h s t))
         (λ g xs s. indirection_gathered all_calls at xs g s)
     tree_passes (binary at o e f) env w b l =
-        two_tell T (Passes env b e) (Passes env (after b e) f) (Passes env b (binary at o e f)) (value_at env (place_of e) (tree env b e)) (value_at env (place_of f) (tree env (after b e) f)) (infix_rule env at o) (λ x y. ((x.0, y.0), (x.1, y.1), (x.2, y.2)))
+        two_tell T (Passes env b e) (Passes env (after b e) f) (Passes env b (binary at o e f)) (value_at env (place_of e) (tree env b e)) (value_at env (place_of f) (tree env (after b e) f)) (infix_rule env at o) (λ x y. ((x.0, y.0), (x.1, y.1), more_calls b.sites (calls e) (calls f) x.2 y.2))
         (value_tells T (Passes env b e) env (place_of e) (tree env b e) (tree_passes e env w b l.0)) (value_tells T (Passes env (after b e) f) env (place_of f) (tree env (after b e) f) (tree_passes f env w (after b e) l.1)) (λ g h xs ys s t. infix_gathered all_calls xs ys env at o g h s t)
     tree_passes (assign at o e f) env w b l =
-        two_tell T (Passes env b e) (Passes env (after b e) f) (Passes env b (assign at o e f)) (place_at (place_of e) (tree env b e)) (value_at env (place_of f) (tree env (after b e) f)) (assignment_by env at o) (λ x y. ((x.0, y.0), (x.1, y.1), (x.2, y.2)))
+        two_tell T (Passes env b e) (Passes env (after b e) f) (Passes env b (assign at o e f)) (place_at (place_of e) (tree env b e)) (value_at env (place_of f) (tree env (after b e) f)) (assignment_by env at o) (λ x y. ((x.0, y.0), (x.1, y.1), more_calls b.sites (calls e) (calls f) x.2 y.2))
         (place_tells T (Passes env b e) (place_of e) (tree env b e) (tree_passes e env w b l.0)) (value_tells T (Passes env (after b e) f) env (place_of f) (tree env (after b e) f) (tree_passes f env w (after b e) l.1)) (λ g h xs ys s t. assignment_by_gathered all_calls xs ys env at o g h s t)
     tree_passes (conditional at c e f) env w b l =
         three_tell T (Passes env b c) (Passes env (after b c) e) (Passes env (after (after b c) e) f) (Passes env b (conditional at c e f)) (value_at env (place_of c) (tree env b c)) (value_at env (place_of e) (tree env (after b c) e)) (value_at env (place_of f) (tree env (after (after b c) e) f)) (choice at)
-        (λ x y z. ((x.0, y.0, z.0), (x.1, y.1, z.1), (x.2, y.2, z.2)))
+        (λ x y z. ((x.0, y.0, z.0), (x.1, y.1, z.1), more_calls b.sites (calls c) (calls e + calls f) x.2 (more_calls (b.sites + calls c) (calls e) (calls f) y.2 z.2)))
         (value_tells T (Passes env b c) env (place_of c) (tree env b c) (tree_passes c env w b l.0)) (value_tells T (Passes env (after b c) e) env (place_of e) (tree env (after b c) e) (tree_passes e env w (after b c) l.1)) (value_tells T (Passes env (after (after b c) e) f) env (place_of f) (tree env (after (after b c) e) f) (tree_passes f env w (after (after b c) e) l.2))
         (λ g h i xs ys zs s t u. choice_gathered all_calls xs ys zs at g h i s t u)
 
     pub trees_pass : (xs : Exprs) (env : Env) → Scope env → (b : Before) → NameNoTypes xs → Holds (TypedExpressionsTell (AllPass env b xs)) (trees env b xs)
-    trees_pass no_exprs env w b l = ([], refl, λ _. (tt, tt, tt))
+    trees_pass no_exprs env w b l = ([], refl, λ _. (tt, tt, no_calls b.sites))
     trees_pass (more_exprs x xs) env w b l =
         both_hold (Tells T (Passes env b x)) (TypedExpressionsTell (AllPass env (after b x) xs)) (TypedExpressionsTell (AllPass env b (more_exprs x xs))) (value_at env (place_of x) (tree env b x)) (trees env (after b x) xs) (λ g gs. fine (g ∷ gs))
         (value_tells T (Passes env b x) env (place_of x) (tree env b x) (tree_passes x env w b l.0)) (trees_pass xs env w (after b x) l.1)
-        (λ g gs h k. (calls_in (tree_of g) ++ k.0, (calls_in (tree_of g), k.0, (refl, h.0), k.1, refl), λ t. (let y = h.1 (in_first T (calls_in (tree_of g)) k.0 t) in let z = k.2 (in_rest T (calls_in (tree_of g)) k.0 t) in ((y.0, z.0), (y.1, z.1), (y.2, z.2)))))
+        (λ g gs h k. (calls_in (tree_of g) ++ k.0, (calls_in (tree_of g), k.0, (refl, h.0), k.1, refl), λ t. (let y = h.1 (in_first T (calls_in (tree_of g)) k.0 t) in let z = k.2 (in_rest T (calls_in (tree_of g)) k.0 t) in ((y.0, z.0), (y.1, z.1), more_calls b.sites (calls x) (calls_of_all xs) y.2 z.2))))
 
   pub value_passes : (x : Expr) (env : Env) → Scope env → (b : Before) → NamesNoType x → Holds (Tells T (Passes env b x)) (value env b x)
   value_passes x env w b l = value_tells T (Passes env b x) env (place_of x) (tree env b x) (tree_passes x env w b l)

@@ -1,9 +1,8 @@
 -- The calls of initialisers that are fine stand at their sites.
-use Rattle.std.proofs.Common.{append-nil, ℕ, zero, suc, ◌+◌, ◌-◌, ◌≤◌, Bool, true, false, List, [], ◌∷◌, ◌++◌, map, length, replicate, nat_le, refl, sym, subst, ◌∙◌, arith}
+use Rattle.std.proofs.Common.{append-nil, ℕ, suc, ◌+◌, ◌≤◌, Bool, true, false, List, [], ◌∷◌, ◌++◌, length, nat_le, refl, sym, subst, ◌∙◌, arith}
 use Rattle.std.proofs.lemmas.Bool.{leb-true}
 use Rattle.c_tree.specs.declared.value.IntType.TheVariants.{Char}
 use Rattle.c_tree.specs.Tree.{CType, integer, pointer, array, Program}
-use Rattle.c_tree.specs.Layout.{Structs, flat, flat_all, repeat}
 use Rattle.c_meaning.specs.Mentions.{Mention}
 use Rattle.c_syntax.specs.Tree.{Expr, a_str, Init, one, list, MaybeInit, no_init, an_init}
 use Rattle.c_syntax.specs.Tree as syntax
@@ -13,7 +12,7 @@ use Rattle.c_rules.specs.Scopes.{Env, Before, layout_of}
 use Rattle.c_rules.specs.TypedExpression.{TypedExpression, tree_of}
 use Rattle.c_rules.specs.Conversions.{as_if_assigned}
 use Rattle.c_rules.specs.Expressions.{value}
-use Rattle.c_rules.specs.Initialisers.{Slots, copies, each, slots, capacity, takes_list, count_inits, text_of, typed_zero, typed_char, zeros, chars, cell_of, scalar_cell, array_cells, cells_of_list, after_init, calls_of_init, calls_of_inits, calls_of_maybe_init, initialised, in_turn, initialised_local, text_fits}
+use Rattle.c_rules.specs.Initialisers.{Slots, copies, each, slots, capacity, takes_list, count_inits, text_of, zeros, chars, cell_of, scalar_cell, array_cells, cells_of_list, after_init, calls_of_init, calls_of_inits, calls_of_maybe_init, initialised, in_turn, initialised_local, text_fits}
 use Rattle.null_calls_laws.specs.MarkedCalls.{sites_of}
 use Rattle.null_calls_laws.specs.Temporaries.{Temporary}
 use Rattle.null_calls_laws.specs.InstrumentedStatements.{kept_of_init, kept_of_inits, kept_of_maybe_init}
@@ -26,35 +25,13 @@ use Rattle.null_calls_laws.specs.Scopes.{IsWrittenScope, AreTemporaries}
 use Rattle.null_calls_laws.proofs.Kept.{none_kept, good_both, kept_good}
 use Rattle.null_calls_laws.proofs.Tables.{Table as CallTable, InTable, in_first, in_rest}
 use Rattle.null_calls_laws.proofs.CallsOfExpressions.{Tells, Passes, T, value_passes}
-use Rattle.c_rules_laws.proofs.GatheredOfTypedExpressions.{Gathers, AllGather, lists_gathered, as_if_gathered}
+use Rattle.c_rules_laws.proofs.GatheredOfTypedExpressions.{Gathers, AllGather, lists_gathered, all_silent, zero_silent, as_if_gathered}
+use Rattle.c_rules_laws.proofs.KnownCells.{slots_each, chars_each}
 
 -- ## Cells
 
 one_given : (xs : List Mention) (g : TypedExpression) → Gathers all_calls xs g → AllGather all_calls xs (g ∷ [])
 one_given xs g h = (xs, [], h, refl, sym (append-nil xs))
-
-zeros_silent : (ts : List CType) → AllGather all_calls [] (map typed_zero ts)
-zeros_silent [] = refl
-zeros_silent (t ∷ ts) = ([], [], one_zero t, zeros_silent ts, refl)
-  where
-    one_zero : (t : CType) → Gathers all_calls [] (typed_zero t)
-    one_zero (integer i) = (refl, λ _. refl)
-    one_zero t = (refl, λ _. refl)
-
-slots_silent : (structs : Structs) (s : Slots) → AllGather all_calls [] (zeros structs s)
-slots_silent structs (copies n t) = zeros_silent (repeat n (flat structs t))
-slots_silent structs (each ts) = zeros_silent (flat_all structs ts)
-
-chars_silent : (n : ℕ) (w : List ℕ) → AllGather all_calls [] (chars n w)
-chars_silent n w = lists_gathered all_calls (map typed_char w) (replicate (n - length w) (typed_char 0)) [] [] (all w) (ends (n - length w))
-  where
-    all : (w : List ℕ) → AllGather all_calls [] (map typed_char w)
-    all [] = refl
-    all (c ∷ w) = ([], [], (refl, λ _. refl), all w, refl)
-
-    ends : (k : ℕ) → AllGather all_calls [] (replicate k (typed_char 0))
-    ends zero = refl
-    ends (suc k) = ([], [], (refl, λ _. refl), ends k, refl)
 
 module _ (p : Program) (enums tags stood : List Name) where
   abbrev Good : (lo n : ℕ) → List Temporary → Type 0
@@ -91,7 +68,7 @@ module _ (p : Program) (enums tags stood : List Name) where
       (λ g k. (calls_in (tree_of g), one_given (calls_in (tree_of g)) g (refl, k.0), λ z. one_passes env b t at x (k.1 z)))
 
   array_passes : (env : Env) (b : Before) (at : ℕ) (t : CType) (n : ℕ) (x : Expr) → Holds (CellsTell (InitPasses env b (array t n) (one at x))) (array_cells at t n (text_of x))
-  array_passes env b at (integer Char) n (a_str here w) = demand_holds (CellsTell (InitPasses env b (array (integer Char) n) (one at (a_str here w)))) (nat_le (length w) n) 14 at (chars n w) (λ _. ([], chars_silent n w, λ _. (tt, tt, none_kept enums tags stood)))
+  array_passes env b at (integer Char) n (a_str here w) = demand_holds (CellsTell (InitPasses env b (array (integer Char) n) (one at (a_str here w)))) (nat_le (length w) n) 14 at (chars n w) (λ _. ([], all_silent all_calls (chars n w) (chars_each (Gathers all_calls []) (λ _. (refl, λ _. refl)) n w), λ _. (tt, tt, none_kept enums tags stood)))
   array_passes env b at t n x = tt
 
   list_passes : (X : Type 0) (takes : Bool) (at most count : ℕ) (r : Checked (List TypedExpression)) → Holds (λ gs. count ≤ most → CellsTell X gs) r → Holds (CellsTell X) (cells_of_list takes at most count r)
@@ -109,7 +86,7 @@ module _ (p : Program) (enums tags stood : List Name) where
     initialised_passes (one at x) env w b t l = tt
 
     in_turn_passes : (is : syntax.Inits) (env : Env) → Scope env → (b : Before) (s : Slots) → InitsNameNoType is → Holds (λ gs. count_inits is ≤ capacity s → CellsTell (InitsPass env b s is) gs) (in_turn env b false s is)
-    in_turn_passes syntax.no_inits env w b s l = λ _. ([], slots_silent (layout_of env) s, λ _. (tt, tt, none_kept enums tags stood))
+    in_turn_passes syntax.no_inits env w b s l = λ _. ([], all_silent all_calls (zeros (layout_of env) s) (slots_each (Gathers all_calls []) (zero_silent all_calls) (layout_of env) s), λ _. (tt, tt, none_kept enums tags stood))
     in_turn_passes (syntax.more_inits i is) env w b (copies (suc n) t) l =
         both_hold (CellsTell (InitPasses env b t i)) (λ hs. count_inits is ≤ n → CellsTell (InitsPass env (after_init env b t i) (copies n t) is) hs) (λ gs. count_inits (syntax.more_inits i is) ≤ suc n → CellsTell (InitsPass env b (copies (suc n) t) (syntax.more_inits i is)) gs)
         (initialised env b false t i) (in_turn env (after_init env b t i) false (copies n t) is) (λ gs hs. fine (gs ++ hs)) (initialised_passes i env w b t l.0) (in_turn_passes is env w (after_init env b t i) (copies n t) l.1)

@@ -39,7 +39,7 @@ use Rattle.null_calls_laws.specs.DeclarationsBeside.{NamedTabled, PartsTabled, D
 use Rattle.null_calls_laws.specs.StatementsBeside.{MaybeTabled, StmtTabled, BlockTabled, StmtsTabled, GroupsTabled}
 use Rattle.c_rules_laws.proofs.Holding.{fine_same, Holds, holds_map, on_holds, both_hold, all_three_hold, Any, anything, demand_holds, alone_holds, held}
 use Rattle.null_calls_laws.specs.CallsIn.{calls_in_inits, calls_in, calls_in_maybe, calls_in_stmt, calls_in_stmts, calls_in_groups, all_calls}
-use Rattle.null_calls_laws.specs.ClosedTypes.{MeaningHas}
+use Rattle.c_rules_laws.specs.ClosedTypes.{MeaningHas}
 use Rattle.null_calls_laws.specs.WrittenTypes.{Written}
 use Rattle.null_calls_laws.specs.AbstractCasts.{MaybeInitNamesNoType, PartsNameNoType, DeclNamesNoType, FirstNamesNoType, MaybeNamesNoType, NamesNoType, StmtNamesNoType, BlockNamesNoType, StmtsNameNoType, GroupsNameNoType}
 use Rattle.null_calls_laws.specs.Scopes.{IsWrittenScope, AreTemporaries}

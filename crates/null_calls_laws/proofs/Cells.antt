@@ -1,13 +1,15 @@
 -- Cells of an initialiser and their temporaries.
-use Rattle.std.proofs.Common.{◌≡◌, ℕ, zero, suc, ◌+◌, ◌-◌, Bool, true, false, List, [], ◌∷◌, ◌++◌, append_assoc, append-nil, length, length-append, map, replicate, refl, ap, ap₂, sym, subst, ◌∙◌, arith, Option, None, Some, nat_le}
+use Rattle.std.proofs.Common.{◌≡◌, ℕ, suc, ◌+◌, Bool, true, false, List, [], ◌∷◌, ◌++◌, append_assoc, append-nil, length, length-append, refl, ap, ap₂, sym, subst, ◌∙◌, arith, Option, None, Some, nat_le}
 use Rattle.c_tree.specs.declared.value.IntType.TheVariants.{Char}
-use Rattle.c_tree.specs.Tree.{CType, void, integer, pointer, array, struct, function, Program}
+use Rattle.c_tree.specs.Tree.{CType, void, integer, pointer, array, Program}
 use Rattle.c_tree.specs.Tree as typed
-use Rattle.c_tree.specs.Layout.{Structs, flat, flat_all, repeat}
+use Rattle.c_tree.specs.Layout.{Structs}
 use Rattle.c_rules.specs.Checked.{Checked, fine, faulty, demand, on, both, Met}
 use Rattle.c_rules.specs.TypedExpression.{TypedExpression, tree_of}
 use Rattle.c_rules.specs.Conversions.{fits, assigned, as_if_assigned, kind_of}
-use Rattle.c_rules.specs.Initialisers.{Slots, copies, each, typed_zero, typed_char, zeros, chars, cell_of, scalar_cell, array_cells, cells_of_one, cells_of_list, stores_from, text_fits}
+use Rattle.c_rules.specs.Initialisers.{Slots, typed_zero, zeros, chars, cell_of, scalar_cell, array_cells, cells_of_one, cells_of_list, stores_from, text_fits}
+use Rattle.c_rules_laws.proofs.Holding.{Each}
+use Rattle.c_rules_laws.proofs.KnownCells.{slots_each, chars_each}
 use Rattle.null_calls_laws.specs.InstrumentedPrograms.{expr, kept, inits, kept_of_inits}
 use Rattle.null_calls_laws.specs.WithoutSites.{unsited, unsited_inits}
 use Rattle.null_calls_laws.specs.Remade.{remade, Follows, IsOperand}
@@ -40,11 +42,10 @@ module _ (p : Program) where
 
   cells_both : (gs hs cs ds : List TypedExpression) (k : ℕ) → Cells k gs hs → Cells (k + length (kept_of_cells gs)) cs ds → Cells k (gs ++ cs) (hs ++ ds)
   cells_both [] [] cs ds k c d = (let e : k + 0 ≡ k = omega arith in subst (λ n. Cells n cs ds) e d)
-  cells_both [] (h ∷ hs) cs ds k c d = absurd c
-  cells_both (g ∷ gs) [] cs ds k c d = absurd c
   cells_both (g ∷ gs) (h ∷ hs) cs ds k c d =
       let e : k + length (kept p true (tree_of g) ++ kept_of_cells gs) ≡ (k + length (kept p true (tree_of g))) + length (kept_of_cells gs) = omega (arith, length-append (kept p true (tree_of g)) (kept_of_cells gs)) in
       (c.0, cells_both gs hs cs ds (k + length (kept p true (tree_of g))) c.1 (subst (λ n. Cells n cs ds) e d))
+  cells_both gs hs cs ds k c d = absurd c
 
   pub both_go : (k : ℕ) (ts us all : List CType) → ts ++ us ≡ all → (r r' s s' : Checked (List TypedExpression)) → CellsGo k ts r r' → CellsGo (k + length ts) us s s' → CellsGo k all (both r s (λ gs hs. fine (gs ++ hs))) (both r' s' (λ gs hs. fine (gs ++ hs)))
   both_go k ts us all joint (fine gs) r' (fine cs) s' g h =
@@ -59,9 +60,8 @@ module _ (p : Program) where
 
   cells_trees : (gs hs : List TypedExpression) (k cell : ℕ) → Cells k gs hs → unsited_inits (stores_from cell hs) ≡ inits p k (stores_from cell gs)
   cells_trees [] [] k cell c = refl
-  cells_trees [] (h ∷ hs) k cell c = absurd c
-  cells_trees (g ∷ gs) [] k cell c = absurd c
   cells_trees (g ∷ gs) (h ∷ hs) k cell c = ap₂ (λ x xs. typed.more_inits cell x xs) c.0 (cells_trees gs hs (k + length (kept p true (tree_of g))) (suc cell) c.1)
+  cells_trees gs hs k cell c = absurd c
 
   pub cells_follow : (k : ℕ) (ts : List CType) (r s : Checked (List TypedExpression)) → CellsGo k ts r s → CellsFollow p k ts r s
   cells_follow k ts (fine gs) s h = (h.0, h.1, record { types = λ cell. cells_types gs cell ∙ h.2; trees = λ cell. cells_trees gs h.0 k cell h.3 })
@@ -74,47 +74,27 @@ module _ (p : Program) where
     types : kept p true (tree_of g) ≡ []
     tree : (k : ℕ) → unsited (tree_of g) ≡ expr p k true (tree_of g)
 
-  abbrev AllBare : List TypedExpression → Type 0
-  AllBare [] = Unit {0}
-  AllBare (g ∷ gs) = IsBare g × AllBare gs
-
-  bare_both : (gs hs : List TypedExpression) → AllBare gs → AllBare hs → AllBare (gs ++ hs)
-  bare_both [] hs g h = h
-  bare_both (x ∷ gs) hs g h = (g.0, bare_both gs hs g.1 h)
-
-  bare_types : (gs : List TypedExpression) → AllBare gs → kept_of_cells gs ≡ []
+  bare_types : (gs : List TypedExpression) → Each IsBare gs → kept_of_cells gs ≡ []
   bare_types [] h = refl
   bare_types (g ∷ gs) h = ap₂ (λ xs ys. xs ++ ys) h.0.types (bare_types gs h.1)
 
-  bare_cells : (gs : List TypedExpression) (k : ℕ) → AllBare gs → Cells k gs gs
+  bare_cells : (gs : List TypedExpression) (k : ℕ) → Each IsBare gs → Cells k gs gs
   bare_cells [] k h = tt
   bare_cells (g ∷ gs) k h = (h.0.tree k, bare_cells gs (k + length (kept p true (tree_of g))) h.1)
 
-  bare_go : (k : ℕ) (gs : List TypedExpression) → AllBare gs → CellsGo k [] (fine gs) (fine gs)
+  bare_go : (k : ℕ) (gs : List TypedExpression) → Each IsBare gs → CellsGo k [] (fine gs) (fine gs)
   bare_go k gs h = (gs, refl, bare_types gs h, bare_cells gs k h)
 
   zero_bare : (t : CType) → IsBare (typed_zero t)
   zero_bare void = record { types = refl; tree = λ k. refl }
   zero_bare t = record { types = refl; tree = λ k. refl }
 
-  all_made : {A : Type 0} (f : A → TypedExpression) → ((a : A) → IsBare (f a)) → (xs : List A) → AllBare (map f xs)
-  all_made f h [] = tt
-  all_made f h (x ∷ xs) = (h x, all_made f h xs)
-
   -- zeros for elements or members without an initialiser
   pub zeros_go : (k : ℕ) (structs : Structs) (s : Slots) → CellsGo k [] (fine (zeros structs s)) (fine (zeros structs s))
-  zeros_go k structs (copies n t) = bare_go k (map typed_zero (repeat n (flat structs t))) (all_made typed_zero zero_bare (repeat n (flat structs t)))
-  zeros_go k structs (each ts) = bare_go k (map typed_zero (flat_all structs ts)) (all_made typed_zero zero_bare (flat_all structs ts))
-
-  char_bare : (b : ℕ) → IsBare (typed_char b)
-  char_bare b = record { types = refl; tree = λ k. refl }
-
-  all_alike : (n : ℕ) (g : TypedExpression) → IsBare g → AllBare (replicate n g)
-  all_alike zero g h = tt
-  all_alike (suc n) g h = (h, all_alike n g h)
+  zeros_go k structs s = bare_go k (zeros structs s) (slots_each IsBare zero_bare structs s)
 
   chars_go : (k n : ℕ) (w : List ℕ) → CellsGo k [] (fine (chars n w)) (fine (chars n w))
-  chars_go k n w = bare_go k (chars n w) (bare_both (map typed_char w) (replicate (n - length w) (typed_char 0)) (all_made typed_char char_bare w) (all_alike (n - length w) (typed_char 0) (char_bare 0)))
+  chars_go k n w = bare_go k (chars n w) (chars_each IsBare (λ _. record { types = refl; tree = λ k. refl }) n w)
 
   -- ## One expression
 

@@ -6,7 +6,7 @@ use Rattle.c_rules.specs.Conversions.{few_parts}
 use Rattle.c_rules_laws.specs.MadeTypes.{NotArray}
 use Rattle.c_rules_laws.specs.RightScopes.{IsThing}
 use Rattle.null_calls_laws.specs.Spelled.{IsSpelled, AreSpelled, DeclaredTypesAreSpelled}
-use Rattle.null_calls_laws.specs.ClosedTypes.{AreClosed}
+use Rattle.c_rules_laws.specs.ClosedTypes.{AreClosed}
 use Rattle.null_calls_laws.specs.WrittenTypes.{Written, AllWritten, IsValueType}
 use Rattle.c_syntax.specs.Tree.{named}
 use Rattle.c_rules.specs.Expressions.{type_declared}

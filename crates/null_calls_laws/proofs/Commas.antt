@@ -29,6 +29,7 @@ use Rattle.null_calls_laws.proofs.Leaves.{Holds, demand_holds}
 use Rattle.null_calls_laws.proofs.BehindArguments.{cons, result_value}
 use Rattle.null_calls_laws.proofs.TreeTypes.{ValueTyped, value_typed}
 use Rattle.null_calls_laws.proofs.Forms.{types_both, found_first, found_rest, value_goes}
+use Rattle.null_calls_laws.proofs.Unsited.{type_same}
 
 -- ## Types of values
 
@@ -51,10 +52,6 @@ value_plain env at (fine g) = valued_plain env at g g.ctype refl
 value_plain env at (faulty f fs) = tt
 
 -- ## Types of trees
-
-pub type_unsited : (e : typed.Expr) → type_of (unsited e) ≡ type_of e
-type_unsited (typed.constant t v) = refl
-type_unsited e = refl
 
 module _ (p : Program) where
   by_mark : (b : Bool) (x y z v : typed.Expr) → type_of x ≡ type_of z → type_of y ≡ type_of v → type_of (if b then x else y) ≡ type_of (if b then z else v)
@@ -105,7 +102,7 @@ module _ (p : Program) where
       let h0 : TypedExpression = h.0 in
       let v : ValueTyped h0 = subst (Holds ValueTyped) h.1 n in
       let w : HasPlainType h0 = subst (Holds HasPlainType) h.1 m in
-      let t : type_of (with_null_calls.expr p 0 wanted (tree_of g)) ≡ h0.ctype = sym (type_anywhere (tree_of g) k wanted) ∙ (sym (ap type_of h.2.tree) ∙ (type_unsited (tree_of h0) ∙ v)) in (
+      let t : type_of (with_null_calls.expr p 0 wanted (tree_of g)) ≡ h0.ctype = sym (type_anywhere (tree_of g) k wanted) ∙ (sym (ap type_of h.2.tree) ∙ (type_same (tree_of h0) ∙ v)) in (
         g,
         [],
         h0 ∷ [],

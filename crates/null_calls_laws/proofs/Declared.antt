@@ -13,7 +13,7 @@ use Rattle.c_rules.specs.Scopes.{Env, inside, tag_number}
 use Rattle.c_rules.specs.Checked.{Checked, fine, on}
 use Rattle.c_rules.specs.Conversions.{few_parts, complete}
 use Rattle.c_rules.specs.Tags.{tags_of_spec, tags_of_maybe, tags_of_declarator, tags_of_params, tags_of_maybe_init, tags_of_parts}
-use Rattle.c_rules.specs.Declarators.{name_of, place_or, type_of_spec, within_parts, pointer_to, array_of, function_of, parameter_of, new_name, with_name_demands, behind_parameter}
+use Rattle.c_rules.specs.Declarators.{name_of, place_or, type_of_spec, within_parts, pointer_to, array_of, function_of, parameter_of, with_name_demands, behind_parameter}
 use Rattle.c_rules.specs.Expressions.{declared, size_in, parameters, type_declared}
 use Rattle.c_rules.specs.Initialisers.{text_of, text_fits, count_inits}
 use Rattle.c_rules.specs.Objects.{Object, sized_by_one, sized_by, with_size, of_known_size, object_of, object_declared}
@@ -21,7 +21,8 @@ use Rattle.std.proofs.lemmas.Bool.{not-true}
 use Rattle.std.proofs.lemmas.Option.{get_or_from_slice_get}
 use Rattle.c_rules_laws.proofs.UnitTable.{name_at}
 use Rattle.null_calls_laws.specs.Spelled.{AreAmong, is_pointee}
-use Rattle.c_rules_laws.proofs.Holding.{Holds, on_holds, both_hold, Any, anything, demand_holds, behind_demand, after_part}
+use Rattle.c_rules_laws.proofs.TypesOfExpressions.{named_holds}
+use Rattle.c_rules_laws.proofs.Holding.{each_both, Holds, on_holds, both_hold, demand_holds, behind_demand, after_part}
 use Rattle.null_calls_laws.specs.WrittenTypes.{Written, AllWritten}
 
 -- ## Tags
@@ -35,8 +36,7 @@ among_right tags [] ys h = h
 among_right tags (x ∷ xs) ys h = among_right tags xs ys h.1
 
 pub among_both : (tags xs ys : List Name) → AreAmong tags xs → AreAmong tags ys → AreAmong tags (xs ++ ys)
-among_both tags [] ys h k = k
-among_both tags (x ∷ xs) ys h k = (h.0, among_both tags xs ys h.1 k)
+among_both tags = each_both (λ (x : Name). is_among tags x ≡ true)
 
 -- a name at its number
 pub found : (tags : List Name) (x : Name) → is_among tags x ≡ true → slice_index_or tags (unwrap_or (number_among tags x) 0) [] ≡ x
@@ -123,10 +123,6 @@ module _ (enums tags stood : List Name) where
   parameter_written : (at : ℕ) (t : CType) → W t → Holds Parameter (parameter_of at t)
   parameter_written at t h = behind_demand Parameter (is_scalar (adjusted t)) 3 at _ (λ s. demand_holds Parameter (few_parts (adjusted t)) 13 at (adjusted t) (λ f. (s, f, adjusted_written t f h)))
 
-  name_written : (env : Env) (o : Option Ident) (r : Checked CType) → Holds Parameter r → Holds Parameter (with_name_demands env o r)
-  name_written env None r h = h
-  name_written env (Some x) r h = both_hold Parameter Any Parameter r (new_name env x) (λ t _. fine t) h (anything (new_name env x)) (λ t _ k _. k)
-
   behind_tags : (env : Env) → HasTags env → (k : ℕ) (o : Option Ident) (r : Checked CType) → HasTags (behind_parameter env k o r)
   behind_tags env w k None r = w
   behind_tags env w k (Some x) r = record { enums_are = w.enums_are; tags_are = w.tags_are }
@@ -148,7 +144,7 @@ module _ (enums tags stood : List Name) where
         let r : Checked CType = on (on (type_of_spec env at s) (λ t. declared env d t)) (parameter_of (place_or at d)) in
         let rest : AreKnownTags (tags_of_declarator d ++ tags_of_params ps) = rest_tags (tags_of_spec s) (tags_of_declarator d ++ tags_of_params ps) m in
         both_hold Parameter AllW AllW (with_name_demands env (name_of d) r) (parameters (behind_parameter env k (name_of d) r) k ps) (λ t ts. fine (more_types t ts))
-        (name_written env (name_of d) r (on_holds W Parameter (on (type_of_spec env at s) (λ t. declared env d t)) (parameter_of (place_or at d))
+        (named_holds Parameter env (name_of d) r (on_holds W Parameter (on (type_of_spec env at s) (λ t. declared env d t)) (parameter_of (place_or at d))
         (on_holds W W (type_of_spec env at s) (λ t. declared env d t) (spec_written env w at s (first_tags (tags_of_spec s) (tags_of_declarator d ++ tags_of_params ps) m)) (λ t h. declared_written d env w t (first_tags (tags_of_declarator d) (tags_of_params ps) rest) h)) (λ t h. parameter_written (place_or at d) t h)))
         (parameters_written ps (behind_parameter env k (name_of d) r) (behind_tags env w k (name_of d) r) k (rest_tags (tags_of_declarator d) (tags_of_params ps) rest))
         (λ t ts h l. (h.0, h.1, h.2, l))

@@ -350,7 +350,6 @@ module _ (p : Program) (n : ℕ) (typed : IsProgram p n) (w w' : World) (goes : 
         subst (λ d. Do {A = Value} owed k more d (OtherEach wanted rest (with_memory st more))) (sym (after_none {A = Value} (f [] st))) (next o [] st more (grows_none o) tt tt (λ x hid out. refl) a)
     kept_do k i j (more_types t ts) (more_exprs e es) o st more s h c m ki ij first r a owed wanted rest f is_more next =
         let mine = right_part p (mentions e) (mentions_of_all es) m in
-        let low = r.0 in
         let high = r.1 in
         let ij : i + suc (length (list_of ts)) ≤ j = ij in
         keeps_first k i j t ts e es o st more s h.1 (left_part p (mentions e) (mentions_of_all es) m) h.0 (All-head IsScalar t (list_of ts) c) ki (omega (arith, ij, high)) first (omega (arith, ij)) a (value_does j true e o st more s h.1 (left_part p (mentions e) (mentions_of_all es) m) (fits_left _ _ j (kept p true e) (kept_of_all p es) r) a) (λ u st l s a. kept_do k (suc i) (j + length (kept p true e)) ts es u st l s h.2 (All-tail IsScalar t (list_of ts) c) mine (omega (arith, ki)) (omega (arith, ij)) (omega (arith, first)) (fits_right _ _ j (kept p true e) (kept_of_all p es) r) a) owed wanted rest f is_more next

@@ -1,11 +1,11 @@
 -- What is known of the bodies in a plain unit that is typed.
-use Rattle.std.proofs.Common.{◌≡◌, ℕ, suc, ◌+◌, Bool, true, false, List, [], ◌∷◌, ◌++◌, Contains, Option, Some, None, refl, sym, subst, ◌∙◌, arith, ap, ap₂, flat_map}
+use Rattle.std.proofs.Common.{◌≡◌, ℕ, suc, ◌+◌, Bool, true, false, List, [], ◌∷◌, ◌++◌, Contains, Option, Some, None, refl, sym, subst, ◌∙◌, arith, ap, flat_map}
 use Rattle.c_tree.specs.Tree.{CType, function, CTypes, more_types, Function, Program}
 use Rattle.c_tree.specs.Tree as typed
 use Rattle.c_meaning.specs.Mentions.{mentions_of_program}
 use Rattle.c_meaning.specs.CallGraph.{callee_at}
-use Rattle.c_syntax.specs.Tree.{Ident, Storage, Spec, Declarator, MaybeInit, Parts, no_parts, more_parts, Decl, decl, Params, more_params, Stmt, BlockItems, Item, decl_item, function_item, Items, no_items, more_items}
-use Rattle.c_rules.specs.Checked.{Checked, fine, on, both, demand, met}
+use Rattle.c_syntax.specs.Tree.{Ident, Storage, Spec, Declarator, Decl, Params, more_params, Stmt, BlockItems, Item, decl_item, function_item, Items, no_items, more_items}
+use Rattle.c_rules.specs.Checked.{fine, on, both, demand, met}
 use Rattle.c_rules.specs.Names.{Name}
 use Rattle.c_rules.specs.Scopes.{Env, a_local, inside, Before}
 use Rattle.c_rules.specs.Declarators.{name_of, place_or}
@@ -15,7 +15,7 @@ use Rattle.c_rules.specs.Variables.{Next, calls_of_block}
 use Rattle.c_rules.specs.Blocks.{StatementTree}
 use Rattle.c_rules.specs.Statements.{Around, items_of_block}
 use Rattle.c_rules.specs.Functions.{declares_function, parameters_of, are_named, with_parameter, with_parameters, body_env, body_numbers, body_of, variables_of, function_laid, defined_as, function_declared, items_of_body, count_params}
-use Rattle.c_rules.specs.Items.{Output, with_output, static_of, output_of_function, defines, global_declared, within_global, definition_of, global, declared_part, named_part, behind_file_part, after_file_part, file_parts, file_decl, behind_defined, function_named, behind_function_named, item, behind_item, behind_by_form, after_item, items, behind_items, no_output, without_init}
+use Rattle.c_rules.specs.Items.{Output, with_output, output_of_function, file_decl, behind_defined, function_named, behind_function_named, item, behind_item, behind_by_form, after_item, items, behind_items, no_output}
 use Rattle.null_calls_laws.specs.MarkedCalls.{sites_of}
 use Rattle.null_calls_laws.specs.Instrumented.{calls_of_item}
 use Rattle.null_calls_laws.specs.InstrumentedStatements.{kept_of_block}
@@ -24,12 +24,12 @@ use Rattle.null_calls_laws.specs.CountedStatements.{BlockNamed}
 use Rattle.null_calls_laws.specs.StatementsBeside.{BlockTabled}
 use Rattle.c_rules_laws.specs.Lexical.{IsStmtLexical, IsItemLexical, IsUnitLexical}
 use Rattle.c_rules_laws.specs.RightScopes.{MeaningRight}
-use Rattle.c_rules_laws.proofs.Holding.{Each, held, first_fine, on_fine, demand_fine, Holds, both_hold, Any, anything, after_part as behind_any}
+use Rattle.c_rules_laws.proofs.Holding.{Each, held, first_fine, on_fine, demand_fine, fine_same}
 use Rattle.c_rules_laws.proofs.FileScopes.{IsFileRight, Follows, follows_on}
 use Rattle.c_rules_laws.proofs.FileItems.{definition_step, form_step, tags_step, items_step}
 use Rattle.c_rules_laws.proofs.UnitScopes.{IsTable, scope_right}
 use Rattle.c_rules_laws.proofs.UnitItems.{body_lexical}
-use Rattle.c_rules_laws.proofs.UnitShape.{output_same}
+use Rattle.c_rules_laws.proofs.Callers.{NoFunctions, decl_none}
 use Rattle.c_rules_laws.proofs.Definitions.{definition_fine}
 use Rattle.null_calls_laws.proofs.Lists.{is_later}
 use Rattle.null_calls_laws.specs.CallsIn.{calls_in_stmt, calls_in_stmts}
@@ -39,49 +39,24 @@ use Rattle.null_calls_laws.specs.Scopes.{IsWrittenScope, AreTemporaries}
 use Rattle.null_calls_laws.proofs.Declared.{AreKnownTags, first_tags, rest_tags, both_tags, among_left, among_right, type_written}
 use Rattle.null_calls_laws.proofs.Tables.{InTable}
 use Rattle.null_calls_laws.proofs.CallsOfStatements.{named_scope, inside_scope, block_passes}
-use Rattle.null_calls_laws.proofs.Silent.{no_span}
 use Rattle.c_rules_laws.proofs.DistinctNames.{among_right as among_later}
 use Rattle.null_calls_laws.proofs.FunctionTags.{body_tags, among_itself, among_front}
 use Rattle.null_calls_laws.specs.Functions.{BodyFacts, NamedFacts, FunctionFacts}
 use Rattle.null_calls_laws.proofs.FileWritten.{IsWrittenFile, more_stand, file_tags, function_file, item_file}
 use Rattle.null_calls_laws.proofs.Aside.{names_in_body}
 use Rattle.c_tree.specs.Sites.{sites_of_function}
-use Rattle.c_rules_laws.proofs.Spans.{Spans, items_span}
+use Rattle.c_rules_laws.proofs.Spans.{Spans, items_span, no_range}
 
 -- ## Items that define no function
 
-abbrev pub NoFunctions : Output → Type 0
-NoFunctions o = o.functions ≡ []
-
-part_none : (e : Env) (b : Before) (at : ℕ) (class : Storage) (s : Spec) (d : Declarator) (m : MaybeInit) (o : Option Ident) → Holds NoFunctions (named_part e b at class s d m o)
-part_none e b at class s d m None = tt
-part_none e b at class s d m (Some x) = by_kind (declares_function d)
-  where
-    by_global : (k : Bool) (r : Checked _) → Holds NoFunctions (global e k b x m r)
-    by_global false r = behind_any NoFunctions r (λ _. fine no_output) (λ _. refl)
-    by_global true r = behind_any NoFunctions r (definition_of (within_global e true x r) b m) (λ o. behind_any NoFunctions _ (λ gs. fine (static_of o gs)) (λ _. refl))
-
-    by_kind : (t : Bool) → Holds NoFunctions (declared_part e b at class s d m t x)
-    by_kind true = both_hold Any Any NoFunctions (function_declared e false at s d x) (without_init m) (λ _ _. fine no_output) (anything _) (anything _) (λ _ _ _ _. refl)
-    by_kind false = by_global (defines class m) (global_declared e (defines class m) b at s d x m)
-
-parts_none : (ps : Parts) (e : Env) (b : Before) (at : ℕ) (class : Storage) (s : Spec) → Holds NoFunctions (file_parts e b at class s ps)
-parts_none no_parts e b at class s = refl
-parts_none (more_parts d m ps) e b at class s =
-    both_hold NoFunctions NoFunctions NoFunctions (named_part e b at class s d m (name_of d)) (file_parts (behind_file_part e b at class s d m) (after_file_part e b at class s d m) at class s ps) (λ p q. fine (with_output p q))
-    (part_none e b at class s d m (name_of d)) (parts_none ps (behind_file_part e b at class s d m) (after_file_part e b at class s d m) at class s) (λ p q h k. ap₂ (λ xs ys. xs ++ ys) h k)
-
-pub decl_none : (d : Decl) (e : Env) (b : Before) → Holds NoFunctions (file_decl e b d)
-decl_none (decl at class s ps) e b = parts_none ps e b at class s
-
--- so they have no calls
+-- have no calls
 decl_sites : (d : Decl) (at : ℕ) (e : Env) → IsFileRight e → (b : Before) (c : Output) → IsItemLexical (decl_item at d) → item e b (decl_item at d) ≡ fine c → (after_item e b (decl_item at d)).sites ≡ b.sites
 decl_sites d at e w b c l h =
     let all : Spans b (after_item e b (decl_item at d)) (with_output c no_output) =
     items_span (more_items (decl_item at d) no_items) e w b (with_output c no_output) (l, tt) (ap (λ r. both r (fine no_output) (λ p q. fine (with_output p q))) h) in
     let none : c.functions ≡ [] = held NoFunctions (file_decl e b d) c (decl_none d e b) h in
     let counted = all.counted in
-    let count : all.count ≡ 0 = no_span b.sites all.count (sym all.sites ∙ ap (λ fs. flat_map sites_of_function (fs ++ [])) none) in
+    let count : all.count ≡ 0 = no_range b.sites all.count (sym all.sites ∙ ap (λ fs. flat_map sites_of_function (fs ++ [])) none) in
     omega (arith, counted, count)
 
 none_more : (n m : ℕ) → m ≡ n → m ≡ n + 0
@@ -178,7 +153,7 @@ module _ (p : Program) (tags : List Name) (last : Env) (table : IsTable p last) 
       let more : IsWrittenFile tags stood env = more_stand tags env.tags stood env (λ y h. among_later item_tags env.tags y h) v in
       let file : IsWrittenFile tags stood inner = function_file tags stood env more true at s d x declared in
       let written : Written env.enums tags stood j.0 = held (Written env.enums tags stood) (type_declared env at s d) j.0 (type_written env.enums tags stood env (file_tags tags stood env more) at s d declared) j.1 in
-      let output : output_of_function i.1 ≡ out = output_same (output_of_function i.1) out i.4 in
+      let output : output_of_function i.1 ≡ out = fine_same (output_of_function i.1) out i.4 in
       let own : AllIn p (i.1 ∷ []) = subst (λ o. AllIn p o.functions) (sym output) all in
       by_type inner step.0 file j.0 j.1 written i.1 j.2 own.0 (rest_tags env.enums tags stood (tags_of_declarator d) (tags_of_stmt false body) rest)
     where
@@ -208,7 +183,7 @@ module _ (p : Program) (tags : List Name) (last : Env) (table : IsTable p last) 
       let rest = items_step is inner after f.1 step.0 lexical.1 f.3 in
       let here : Follows (behind_by_form env b i) last = follows_on (behind_by_form env b i) inner last step.1 (follows_on inner (behind_items inner after is) last rest.1 g) in
       let own : AreAmong tags (tags_of_item false i) = among_left tags (tags_of_item false i) (tags_of_items false is) among in
-      let both = in_both p f.0.functions f.1.functions (subst (λ o. AllIn p o.functions) (sym (output_same (with_output f.0 f.1) out f.4)) all) in (
+      let both = in_both p f.0.functions f.1.functions (subst (λ o. AllIn p o.functions) (sym (fine_same (with_output f.0 f.1) out f.4)) all) in (
         item_facts i env w v b f.0 own names.0 lexical.0 f.2 here both.0,
         item_sites i env w b f.0 lexical.0 f.2,
         unit_facts is inner step.0 (item_file tags i env b f.0 v (known_here env i own) f.2) after f.1 (among_right tags (tags_of_item false i) (tags_of_items false is) among) names.1 lexical.1 f.3 g both.1,

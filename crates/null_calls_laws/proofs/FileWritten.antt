@@ -6,7 +6,7 @@ use Rattle.c_tree.specs.Tree.{CType}
 use Rattle.c_syntax.specs.Tree.{Ident, Storage, Spec, Declarator, MaybeInit, no_init, Parts, no_parts, more_parts, Decl, decl, Declarators, no_declarators, more_declarators, Members, no_members, more_members, Enumerators, no_enumerators, more_enumerators, Tag, no_tag, tag, Item, struct_item, enum_item, tag_item, decl_item, function_item}
 use Rattle.c_rules.specs.Checked.{Checked, fine, faulty, on, demand, met}
 use Rattle.c_rules.specs.Names.{Name, is_among, with_new}
-use Rattle.c_rules.specs.Scopes.{Whole, Env, Binding, Meaning, a_static, a_local, a_function, an_enumerator, Struct, incomplete, defined_struct, Member, type_of_member, lookup, with_name, meaning_or_unknown, struct_of, with_struct, tag_number, Before}
+use Rattle.c_rules.specs.Scopes.{Env, Binding, Meaning, a_static, a_local, a_function, an_enumerator, Struct, incomplete, defined_struct, Member, type_of_member, lookup, with_name, meaning_or_unknown, struct_of, with_struct, tag_number, Before}
 use Rattle.c_rules.specs.Conversions.{complete}
 use Rattle.c_rules.specs.Declarators.{name_of, place_or, new_name}
 use Rattle.c_rules.specs.Expressions.{type_declared}
@@ -14,14 +14,15 @@ use Rattle.c_rules.specs.Objects.{Object, object_declared, with_size}
 use Rattle.c_rules.specs.Tags.{tags_of_spec, tags_of_declarator, tags_of_parts, tags_of_decl, tags_of_declarators, tags_of_members, tags_of_enumerators, tags_of_stmt, tags_of_item}
 use Rattle.c_rules.specs.Functions.{declares_function, function_meaning, is_defined_by, function_declared, behind_function}
 use Rattle.c_rules.specs.Items.{Output, no_output, member_typed, new_member, member_named, member_declared, with_option, names_behind, members_declared, members, struct_laid, new_struct, struct_definition, struct_or_unknown, free_tag, enumerator_value, one_more_than, enumerator_meaning, behind_enumerator, enumerators, behind_enumerators, new_enum, behind_enum_tag, defines, global_object, global_declared, meaning_of_global, behind_global, behind_declared, behind_named_part, behind_file_part, after_file_part, behind_file_parts, behind_file_decl, behind_function_named, item, behind_by_form, behind_item}
-use Rattle.c_rules_laws.proofs.Holding.{Holds, held, on_holds, both_hold, Any, anything, demand_holds, after_part, first_fine, and_left, and_right}
+use Rattle.c_rules_laws.proofs.Holding.{Holds, held, each_map, on_holds, both_hold, Any, anything, demand_holds, after_part, first_fine, and_left, and_right}
 use Rattle.std.proofs.lemmas.Bool.{not-true}
-use Rattle.null_calls_laws.specs.ClosedTypes.{MeaningHas, AllHave, ScopeHas}
+use Rattle.c_rules_laws.specs.ClosedTypes.{MeaningHas, AllHave, ScopeHas}
 use Rattle.null_calls_laws.specs.WrittenTypes.{Written}
 use Rattle.null_calls_laws.proofs.Closed.{written_later}
 use Rattle.null_calls_laws.proofs.FileNames.{other, among_past}
 use Rattle.null_calls_laws.proofs.Declared.{part_tags, AreKnownTags, first_tags, rest_tags, both_tags, HasTags, type_written, with_size_written, ObjectWritten, object_written}
 use Rattle.c_rules_laws.proofs.DistinctNames.{among_right as among_later}
+use Rattle.c_rules_laws.proofs.Callers.{form_tags}
 
 -- a scope at file scope of a plain unit
 pub record IsWrittenFile (tags stood : List Name) (env : Env) : Type 0 where
@@ -37,12 +38,8 @@ meaning_map W V f (a_local n seen whole) h = f seen h
 meaning_map W V f (a_function t d) h = f t h
 meaning_map W V f m h = tt
 
-all_map : (W V : CType → Type 0) → ((t : CType) → W t → V t) → (ts : List CType) → AllHave W ts → AllHave V ts
-all_map W V f [] h = tt
-all_map W V f (t ∷ ts) h = (f t h.0, all_map W V f ts h.1)
-
 scope_map : (W V : CType → Type 0) → ((t : CType) → W t → V t) → (env : Env) → ScopeHas W env → ScopeHas V env
-scope_map W V f env h = record { names = λ x b e. meaning_map W V f b.means (h.names x b e); members = λ s ms e. all_map W V f (map type_of_member ms) (h.members s ms e) }
+scope_map W V f env h = record { names = λ x b e. meaning_map W V f b.means (h.names x b e); members = λ s ms e. each_map W V f (map type_of_member ms) (h.members s ms e) }
 
 meant_has : (W : CType → Type 0) (r : Checked Meaning) → Holds (MeaningHas W) r → MeaningHas W (meaning_or_unknown r)
 meant_has W (fine m) h = h
@@ -250,49 +247,6 @@ form_file tags (function_item at class s d body) env b out w k e =
         → IsWrittenFile tags (tags_of_item false (function_item at class s d body) ++ env.tags) (behind_function_named env at s d o)
     by_name None v h = v
     by_name (Some x) v h = function_file tags (tags_of_item false (function_item at class s d body) ++ env.tags) env v true at s d x h
-
--- the form changes neither the tags that stand before nor what is known of the whole unit
-abbrev pub kept : Env → List Name × Whole
-kept env = (env.tags, env.whole)
-
-parts_same : (ps : Parts) (env : Env) (b : Before) (at : ℕ) (class : Storage) (s : Spec) → kept (behind_file_parts env b at class s ps) ≡ kept env
-parts_same no_parts env b at class s = refl
-parts_same (more_parts d m ps) env b at class s = parts_same ps (behind_file_part env b at class s d m) (after_file_part env b at class s d m) at class s ∙ by_name (name_of d)
-  where
-    by_kind : (x : Ident) (t : Bool) → kept (behind_declared env b at class s d m t x) ≡ kept env
-    by_kind x true = refl
-    by_kind x false = refl
-
-    by_name : (o : Option Ident) → kept (behind_named_part env b at class s d m o) ≡ kept env
-    by_name None = refl
-    by_name (Some x) = by_kind x (declares_function d)
-
-enumerators_same : (es : Enumerators) (env : Env) (before : Checked _) → kept (behind_enumerators env before es) ≡ kept env
-enumerators_same no_enumerators env before = refl
-enumerators_same (more_enumerators x m es) env before = enumerators_same es (behind_enumerator env x (enumerator_value env before x m)) (one_more_than (enumerator_value env before x m))
-
-enum_same : (env : Env) (x : Tag) → kept (behind_enum_tag env x) ≡ kept env
-enum_same env no_tag = refl
-enum_same env (tag x) = refl
-
-decl_same : (d : Decl) (env : Env) (b : Before) → kept (behind_file_decl env b d) ≡ kept env
-decl_same (decl at class s ps) env b = parts_same ps env b at class s
-
-pub function_same : (env : Env) (at : ℕ) (s : Spec) (d : Declarator) (o : Option Ident) → kept (behind_function_named env at s d o) ≡ kept env
-function_same env at s d None = refl
-function_same env at s d (Some x) = refl
-
-form_same : (i : Item) (env : Env) (b : Before) → kept (behind_by_form env b i) ≡ kept env
-form_same (enum_item at x es) env b = enum_same (behind_enumerators env (fine _) es) x ∙ enumerators_same es env (fine _)
-form_same (decl_item at d) env b = decl_same d env b
-form_same (function_item at class s d body) env b = function_same env at s d (name_of d)
-form_same i env b = refl
-
-pub form_tags : (i : Item) (env : Env) (b : Before) → (behind_by_form env b i).tags ≡ env.tags
-form_tags i env b = ap (λ k. k.0) (form_same i env b)
-
-pub form_whole : (i : Item) (env : Env) (b : Before) → (behind_by_form env b i).whole ≡ env.whole
-form_whole i env b = ap (λ k. k.1) (form_same i env b)
 
 -- behind an item that is fine
 pub item_file : (tags : List Name) (i : Item) (env : Env) (b : Before) (out : Output) → IsWrittenFile tags env.tags env → AreKnownTags env.enums tags (tags_of_item false i ++ env.tags) (tags_of_item false i) → item env b i ≡ fine out → IsWrittenFile tags (behind_item env b i).tags (behind_item env b i)

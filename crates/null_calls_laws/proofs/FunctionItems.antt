@@ -29,20 +29,18 @@ use Rattle.c_rules_laws.proofs.Parts.{type_declared_leads}
 use Rattle.null_calls_laws.specs.Follow.{types_of}
 use Rattle.null_calls_laws.proofs.Numbers.{numbers_stay}
 use Rattle.null_calls_laws.proofs.Nodes.{both_gives}
-use Rattle.null_calls_laws.proofs.StatementTags.{tags_stay}
-use Rattle.null_calls_laws.proofs.StatementCounts.{blocks_stay}
+use Rattle.null_calls_laws.proofs.StatementCounts.{blocks_stay, tags_stay}
 use Rattle.null_calls_laws.specs.FileScopes.{FilesBeside, at_site, HasNullCalls, files_beside}
 use Rattle.null_calls_laws.proofs.FileNames.{scopes_of, files_alike, function_declared_leads, function_files, named_files}
 use Rattle.null_calls_laws.proofs.Items.{tags_files, files_tags}
-use Rattle.c_rules_laws.proofs.Holding.{held}
+use Rattle.c_rules_laws.proofs.Holding.{held, fine_same}
 use Rattle.c_rules_laws.proofs.UnitFunctions.{ParamsFit, type_fits}
-use Rattle.c_rules_laws.proofs.UnitShape.{output_same, type_same}
 use Rattle.c_rules_laws.proofs.Definitions.{laid_body, definition_fine}
 use Rattle.null_calls_laws.proofs.Declared.{among_left, among_right, among_both}
 use Rattle.null_calls_laws.specs.Functions.{HasFunctions, BodyFacts, NamedFacts, FunctionFacts, DefinitionsGo}
 use Rattle.null_calls_laws.proofs.Temporaries.{all_free}
 use Rattle.null_calls_laws.proofs.FunctionBodies.{BodyGoes, body_goes, temporaries_few, right_laid, right_function, laid_right, function_instrumented, temporaries_count, variables_right}
-use Rattle.null_calls_laws.proofs.FileWritten.{function_same}
+use Rattle.c_rules_laws.proofs.Callers.{form_tags}
 use Rattle.c_rules_laws.proofs.DistinctNames.{among_right as among_later}
 use Rattle.null_calls_laws.proofs.FunctionTags.{declared_stand, declared_aside, body_tags, is_in, among_front, among_itself, among_cases}
 use Rattle.null_calls_laws.proofs.Counted.{names_long}
@@ -191,11 +189,11 @@ module _ (p : Program) (enums tags stood : List Name) (e f : Env) (w : FilesBesi
   named_goes out h =
       let i = first_fine (function_declared e true at s d x) (on (type_declared e at s d) (defined_as left_env b (place_or at d) d x items_left)) (λ _ f. fine (output_of_function f)) out h in
       let j = on_fine (type_declared e at s d) (defined_as left_env b (place_or at d) d x items_left) i.1 i.3 in
-      let same : j.0 ≡ function t ts = type_same j.0 (function t ts) (sym j.1 ∙ typed_left) in
+      let same : j.0 ≡ function t ts = fine_same j.0 (function t ts) (sym j.1 ∙ typed_left) in
       let files : FilesBeside left_env right_env = function_files e f w true at s d x i.0 i.2 in
       let goes : DefinedGoes i.1 = definition_goes files i.1 (subst (λ z. defined_as left_env b (place_or at d) d x items_left z ≡ fine i.1) same j.2) in
       let declared : function_declared f true at s d x ≡ fine i.0 = fine_leads (function_declared e true at s d x) (function_declared f true at s d x) i.0 (function_declared_leads e f w true at s d x) i.2 in
-      let output_is : output_of_function i.1 ≡ out = output_same (output_of_function i.1) out i.4 in
+      let output_is : output_of_function i.1 ≡ out = fine_same (output_of_function i.1) out i.4 in
       record {
         output = output_of_function goes.right;
         count = n + calls_of_block items_right;
@@ -268,7 +266,7 @@ function_item_goes p tags e f w g b n at class s d body out h few low r =
       functions = goes.functions;
       statics = goes.statics;
       files = tags_files e1 f1 goes.files i j (λ x k. among_cases (is_among (tags_of_item false i ++ e1.tags) x ≡ true) (tags_of_item false j) f1.tags x k
-          (λ l. subst (λ ts. is_among (tags_of_item false i ++ ts) x ≡ true) (sym (ap (λ k. k.0) (function_same e at s d (name_of d)))) (is_in (tags_of_item false i ++ e.tags) (tags_of_item false j) stand x l))
+          (λ l. subst (λ ts. is_among (tags_of_item false i ++ ts) x ≡ true) (sym (form_tags i e b)) (is_in (tags_of_item false i ++ e.tags) (tags_of_item false j) stand x l))
           (λ l. among_later (tags_of_item false i) e1.tags x (files_tags e1 f1 goes.files x l)));
       after = goes.after;
       few = goes.few;

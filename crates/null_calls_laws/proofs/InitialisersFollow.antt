@@ -2,8 +2,7 @@
 use Rattle.std.proofs.Common.{◌≡◌, ℕ, suc, ◌+◌, ◌*◌, ◌≤◌, true, false, ◌&&◌, if◌then◌else◌, List, [], ◌∷◌, ◌++◌, Option, Some, None, refl, ap, ap₂, sym, subst, arith, is_some}
 use Rattle.std.proofs.lemmas.Bool.{leb-true}
 use Rattle.c_tree.specs.Tree.{CType, Program}
-use Rattle.c_syntax.specs.Tree.{Expr, a_name, an_int, a_char, a_str, comma, sizeof_type, cast, call, member, postfix, prefix, unary, index, binary, assign, conditional, Exprs}
-use Rattle.c_syntax.specs.Tree.{Init, one, list, Inits, no_inits, more_inits, an_init, no_parts, more_parts, decl, no_storage, nothing, no_block_items, block_decl}
+use Rattle.c_syntax.specs.Tree.{Expr, a_str, call, Exprs, Init, one, list, Inits, no_inits, more_inits, an_init, no_parts, more_parts, decl, no_storage, nothing, no_block_items, block_decl}
 use Rattle.c_syntax.specs.Tree as syntax
 use Rattle.c_rules.specs.Scopes.{Env, Before, layout_of}
 use Rattle.c_rules.specs.Counts.{calls, string_cells, past}

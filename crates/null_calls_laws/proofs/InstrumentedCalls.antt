@@ -1,10 +1,10 @@
 -- A marked call between its null calls.
 use Rattle.std.proofs.Common.{◌≡◌, ℕ, suc, ◌+◌, ◌≤◌, Bool, true, false, if◌then◌else◌, List, [], ◌∷◌, ◌++◌, length, None, Some, refl, ap, ap₂, sym, subst, ◌∙◌, arith}
 use Rattle.std.proofs.lemmas.List.{append-nil}
-use Rattle.c_tree.specs.Tree.{CType, void, integer, pointer, function, CTypes, no_types, more_types, list_of, type_of, Program}
+use Rattle.c_tree.specs.Tree.{CType, void, pointer, function, CTypes, no_types, more_types, list_of, type_of, Program}
 use Rattle.c_tree.specs.Tree as typed
 use Rattle.c_tree.specs.Functions.{called_type}
-use Rattle.c_tree.specs.Operands.{IsScalar, IsResult}
+use Rattle.c_tree.specs.Operands.{IsResult}
 use Rattle.c_meaning.specs.Mentions.{Direct, Through}
 use Rattle.c_meaning.specs.CallGraph.{is_marked}
 use Rattle.c_syntax.specs.Tree.{Expr, a_name, comma, call, Exprs, no_exprs, more_exprs}
@@ -34,7 +34,7 @@ use Rattle.null_calls_laws.specs.Tabled.{AreTabled, AllTabled, AreFound}
 use Rattle.null_calls_laws.specs.Follow.{types_of, Goes, AllGo}
 use Rattle.null_calls_laws.proofs.Leaves.{Holds}
 use Rattle.null_calls_laws.proofs.TreeTypes.{ValueTyped, value_typed, nulls_have_their_types}
-use Rattle.null_calls_laws.proofs.Commas.{type_unsited}
+use Rattle.null_calls_laws.proofs.Unsited.{type_same}
 use Rattle.null_calls_laws.proofs.Forms.{types_both, found_first, found_rest, value_goes}
 use Rattle.null_calls_laws.specs.AddedParts.{IsTemporary}
 use Rattle.null_calls_laws.specs.KeptArguments.{NearBy, after_all}
@@ -43,8 +43,9 @@ use Rattle.null_calls_laws.specs.InstrumentedCalls.{NullCallsStand}
 use Rattle.null_calls_laws.specs.NullTypes.{IsNullType}
 use Rattle.null_calls_laws.proofs.AddedParts.{temporaries_are_read, temporaries_are_set}
 use Rattle.null_calls_laws.proofs.BehindArguments.{behind}
-use Rattle.null_calls_laws.proofs.KeptArguments.{scalar_fits, first_fine, and_left, and_right, same_fine, follows_fine, kept_arguments_go}
+use Rattle.null_calls_laws.proofs.KeptArguments.{fits_scalar, first_fine, and_left, and_right, fine_same, follows_fine, kept_arguments_go}
 use Rattle.null_calls_laws.proofs.OwnTypes.{type_itself}
+use Rattle.null_calls_laws.proofs.Scalars.{kept_scalar}
 use Rattle.c_lexer.proofs.OneTokenTables.{or_right}
 
 -- ## Lists
@@ -71,25 +72,19 @@ sites_behind (more_exprs e es) b = (let r = sites_behind es (after b e) in omega
 scalars_of : (ps : CTypes) (gs : List TypedExpression) → all_fit ps gs ≡ true → length gs ≡ count ps → AreScalars ps
 scalars_of no_types gs h l = tt
 scalars_of (more_types t ps) [] h l = absurd (omega (arith, l))
-scalars_of (more_types t ps) (g ∷ gs) h l = (scalar_fits t g (and_left (fits t g) (all_fit ps gs) h), scalars_of ps gs (and_right (fits t g) (all_fit ps gs) h) (omega (arith, l)))
+scalars_of (more_types t ps) (g ∷ gs) h l = (fits_scalar t g (and_left (fits t g) (all_fit ps gs) h), scalars_of ps gs (and_right (fits t g) (all_fit ps gs) h) (omega (arith, l)))
 
 pub many_of : (sites : Sites) (env : Env) (es : Exprs) (i : ℕ) (b : Before) (gs : List TypedExpression) (ps : CTypes) → trees env b es ≡ fine gs → length gs ≡ count ps → AreAsMany (arguments sites i es) ps
 many_of sites env no_exprs i b gs no_types e l = tt
-many_of sites env no_exprs i b gs (more_types t ps) e l = (let q : length gs ≡ 0 = ap length (same_fine gs [] (sym e)) in omega (arith, q, l))
+many_of sites env no_exprs i b gs (more_types t ps) e l = (let q : length gs ≡ 0 = ap length (fine_same gs [] (sym e)) in omega (arith, q, l))
 many_of sites env (more_exprs a es) i b gs no_types e l =
-    (let c = first_fine (value env b a) (trees env (after b a) es) (λ g gs. fine (g ∷ gs)) gs e in let q : length gs ≡ suc (length c.1) = ap length (same_fine gs (c.0 ∷ c.1) (sym c.4)) in omega (arith, q, l))
+    (let c = first_fine (value env b a) (trees env (after b a) es) (λ g gs. fine (g ∷ gs)) gs e in let q : length gs ≡ suc (length c.1) = ap length (fine_same gs (c.0 ∷ c.1) (sym c.4)) in omega (arith, q, l))
 many_of sites env (more_exprs a es) i b gs (more_types t ps) e l =
     (let c = first_fine (value env b a) (trees env (after b a) es) (λ g gs. fine (g ∷ gs)) gs e in
-    let q : length gs ≡ suc (length c.1) = ap length (same_fine gs (c.0 ∷ c.1) (sym c.4)) in
+    let q : length gs ≡ suc (length c.1) = ap length (fine_same gs (c.0 ∷ c.1) (sym c.4)) in
     many_of sites env es (i + calls a) (after b a) c.1 ps c.3 (omega (arith, q, l)))
 
 -- ## Results
-
-kept_scalar : (wanted : Bool) (t : CType) → IsResult t → is_kept wanted t ≡ true → IsScalar t
-kept_scalar wanted void h e = absurd (let q : false ≡ true = e in cc)
-kept_scalar wanted (integer i) h e = tt
-kept_scalar wanted (pointer t) h e = tt
-kept_scalar wanted t h e = absurd h
 
 result_found : (w : More) (kept : Bool) (site j : ℕ) (t : CType) → AreFound w.names j (if kept then record { name = result_name site; ctype = t } ∷ [] else []) → kept ≡ true → IsTemporary w (result_name site) j t
 result_found w true site j t f e = f.0
@@ -227,7 +222,7 @@ module _ (p : Program) (sites : Sites) (env : Env) (w : More) (stand : NullCalls
         let through_types : with_null_calls.of_through p wanted t (type_of (tree_of g)) ≡ types_of zs =
         if_true (is_marked p (Through (type_of (tree_of g)))) (type_of (tree_of g) ∷ (with_null_calls.parameters_behind (type_of (tree_of g)) ++ with_null_calls.of_result wanted t)) [] marked ∙ (ap (λ u. u ∷ (with_null_calls.parameters_behind u ++ with_null_calls.of_result wanted t)) typ ∙ sym both_types) in
         let typed_one : type_of (tree_of g1) ≡ g1.ctype = subst (Holds ValueTyped) f.1 (value_typed d1 R b1) in
-        let tree_type : type_of (with_null_calls.expr p k true (tree_of g)) ≡ F = ap type_of (sym o.tree) ∙ (type_unsited (tree_of g1) ∙ (typed_one ∙ pointed)) in
+        let tree_type : type_of (with_null_calls.expr p k true (tree_of g)) ≡ F = ap type_of (sym o.tree) ∙ (type_same (tree_of g1) ∙ (typed_one ∙ pointed)) in
         let through_one : CType → typed.Expr → List CType → List CType → List CType → typed.Expr = (λ u a ts us vs. typed.comma T (typed.more_exprs (with_null_calls.keep u (k + length ts) a) (with_null_calls.marked_members p m wanted t (suc (k + length ts)) us (with_null_calls.arguments p (k + length ts + length vs) (passed ps gs)) (λ ws. typed.call_through t 0 (with_null_calls.kept_value u (k + length ts)) ws)))) in
         record {
           made = typed.comma T (trees_of (kept_one ∷ h.members));

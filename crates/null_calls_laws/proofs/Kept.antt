@@ -6,6 +6,7 @@ use Rattle.c_syntax.specs.Tree.{Expr, comma, cast, call, member, postfix, prefix
 use Rattle.c_rules.specs.Names.{Name}
 use Rattle.c_rules.specs.Types.{is_scalar, is_result, count}
 use Rattle.c_rules.specs.Counts.{calls, calls_of_all}
+use Rattle.c_rules_laws.proofs.Holding.{each_both}
 use Rattle.null_calls_laws.specs.TemporaryNames.{limit, HaveOtherNames}
 use Rattle.null_calls_laws.proofs.NameLemmas.{names_differ}
 use Rattle.null_calls_laws.specs.MarkedCalls.{Called, Sites}
@@ -13,6 +14,59 @@ use Rattle.null_calls_laws.specs.Temporaries.{Temporary, designator_kept, argume
 use Rattle.null_calls_laws.specs.InstrumentedExpressions.{is_void_type, is_address_of_indirection, kept, kept_of_arguments, kept_of_members}
 use Rattle.null_calls_laws.specs.WrittenTypes.{Written, AllWritten}
 use Rattle.null_calls_laws.specs.Scopes.{AreWrittenTemporaries, IsOfSite, AreOfSites, DiffersFrom, AllDiffer, AreTemporaries}
+
+-- ## What an expression keeps
+
+-- What holds of no temporaries, of those of two parts and of those of a call holds of all that are kept. P is told the first site of a part,
+-- and how many calls there are in it.
+module _ (sites : Sites) (P : (lo n : ℕ) → List Temporary → Type 0) (none : (lo : ℕ) → P lo 0 []) (joined : (lo m n : ℕ) (xs ys : List Temporary) → P lo m xs → P (lo + m) n ys → P lo (m + n) (xs ++ ys)) (called : (site : ℕ) (wanted : Bool) → P site 1 (temporaries_where site wanted (sites site))) where
+  -- the property of the operand of a unary
+  abbrev Operand : (before : ℕ) → Expr → Type 0
+  Operand b (unary at op e) = P b (calls e) (kept sites b false e)
+  Operand b e = Unit {0}
+
+  unary_has : (at op : ℕ) (e : Expr) (b : ℕ) (wanted : Bool) → P b (calls e) (kept sites b true e) → Operand b e → P b (calls e) (kept sites b wanted (unary at op e))
+  unary_has at op e b true h k = h
+  unary_has at op (unary p o e) b false h k = cond_both (is_address_of_indirection op o) (kept sites b false e) (kept sites b true e) (P b (calls e)) (λ _. k) (λ _. h)
+  unary_has at op e b false h k = h
+
+  mutual
+    pub kept_has : (x : Expr) (b : ℕ) (wanted : Bool) → P b (calls x) (kept sites b wanted x)
+    kept_has (comma at es) b wanted = members_have es b wanted
+    kept_has (cast at t e) b wanted = cond_both (is_void_type t) (kept sites b false e) (kept sites b true e) (P b (calls e)) (λ _. kept_has e b false) (λ _. kept_has e b true)
+    kept_has (call at d es) b wanted =
+        let s : ℕ = b + calls d in
+        let n : ℕ = calls_of_all es in
+        let ys : List Temporary = kept_of_arguments sites (suc s) es in
+        let one : s + 1 ≡ suc s = omega arith in
+        let more : 1 + n ≡ suc n = omega arith in
+        joined b (calls d) (suc n) (kept sites b true d) (temporaries_where s wanted (sites s) ++ ys) (kept_has d b true)
+        (subst (λ k. P s k (temporaries_where s wanted (sites s) ++ ys)) more (joined s 1 n (temporaries_where s wanted (sites s)) ys (called s wanted) (subst (λ k. P k n ys) (sym one) (arguments_have es (suc s)))))
+    kept_has (member at how e x) b wanted = kept_has e b true
+    kept_has (postfix at op e) b wanted = kept_has e b true
+    kept_has (prefix at pre_increment e) b wanted = kept_has e b true
+    kept_has (prefix at pre_decrement e) b wanted = kept_has e b true
+    kept_has (unary at op e) b wanted = unary_has at op e b wanted (kept_has e b true) (operand_has e b)
+    kept_has (index at e f) b wanted = joined b (calls e) (calls f) (kept sites b true e) (kept sites (b + calls e) true f) (kept_has e b true) (kept_has f (b + calls e) true)
+    kept_has (binary at op e f) b wanted = joined b (calls e) (calls f) (kept sites b true e) (kept sites (b + calls e) true f) (kept_has e b true) (kept_has f (b + calls e) true)
+    kept_has (assign at op e f) b wanted = joined b (calls e) (calls f) (kept sites b true e) (kept sites (b + calls e) true f) (kept_has e b true) (kept_has f (b + calls e) true)
+    kept_has (conditional at c e f) b wanted =
+        joined b (calls c) (calls e + calls f) (kept sites b true c) (kept sites (b + calls c) true e ++ kept sites (b + calls c + calls e) true f) (kept_has c b true)
+        (joined (b + calls c) (calls e) (calls f) (kept sites (b + calls c) true e) (kept sites (b + calls c + calls e) true f) (kept_has e (b + calls c) true) (kept_has f (b + calls c + calls e) true))
+    kept_has x b wanted = none b
+
+    operand_has : (x : Expr) (b : ℕ) → Operand b x
+    operand_has (unary at op e) b = kept_has e b false
+    operand_has x b = tt
+
+    arguments_have : (es : Exprs) (b : ℕ) → P b (calls_of_all es) (kept_of_arguments sites b es)
+    arguments_have no_exprs b = none b
+    arguments_have (more_exprs e es) b = joined b (calls e) (calls_of_all es) (kept sites b true e) (kept_of_arguments sites (b + calls e) es) (kept_has e b true) (arguments_have es (b + calls e))
+
+    members_have : (es : Exprs) (b : ℕ) (wanted : Bool) → P b (calls_of_all es) (kept_of_members sites b wanted es)
+    members_have no_exprs b wanted = none b
+    members_have (more_exprs e no_exprs) b wanted = (let z : calls e ≡ calls e + 0 = omega arith in subst (λ n. P b n (kept sites b wanted e)) z (kept_has e b wanted))
+    members_have (more_exprs e (more_exprs f es)) b wanted = joined b (calls e) (calls_of_all (more_exprs f es)) (kept sites b false e) (kept_of_members sites (b + calls e) wanted (more_exprs f es)) (kept_has e b false) (members_have (more_exprs f es) (b + calls e) wanted)
 
 -- ## Lists of temporaries
 
@@ -23,10 +77,6 @@ sites_later lo n low m h k (x ∷ xs) s =
     let a = y.least in
     let b = y.most in
     (record { site = y.site; argument = y.argument; least = omega (arith, a, h); most = omega (arith, b, k); low = y.low; few = y.few; named = y.named }, sites_later lo n low m h k xs s.1)
-
-sites_both : (lo n : ℕ) (xs ys : List Temporary) → AreOfSites lo n xs → AreOfSites lo n ys → AreOfSites lo n (xs ++ ys)
-sites_both lo n [] ys h k = k
-sites_both lo n (x ∷ xs) ys h k = (h.0, sites_both lo n xs ys h.1 k)
 
 written_both : (enums tags stood : List Name) (xs ys : List Temporary) → AreWrittenTemporaries enums tags stood xs → AreWrittenTemporaries enums tags stood ys → AreWrittenTemporaries enums tags stood (xs ++ ys)
 written_both enums tags stood [] ys h k = k
@@ -54,8 +104,7 @@ differs_later lo m n x (y ∷ ys) h k =
     (other_site h.site z.site h.argument z.argument x.name y.name (omega (arith, a, b)) h.low z.low h.few z.few h.named z.named, differs_later lo m n x ys h k.1)
 
 differs_both : (x : Temporary) (xs ys : List Temporary) → DiffersFrom x xs → DiffersFrom x ys → DiffersFrom x (xs ++ ys)
-differs_both x [] ys h k = k
-differs_both x (y ∷ xs) ys h k = (h.0, differs_both x xs ys h.1 k)
+differs_both x = each_both (λ (y : Temporary). x.name ≢ y.name)
 
 all_differ : (lo m n : ℕ) (xs ys : List Temporary) → AreOfSites lo m xs → AreOfSites (lo + m) n ys → AllDiffer xs → AllDiffer ys → AllDiffer (xs ++ ys)
 all_differ lo m n [] ys h k a b = b
@@ -74,7 +123,7 @@ module _ (enums tags stood : List Name) where
   pub good_both : {lo m n : ℕ} (xs ys : List Temporary) → Good lo m xs → Good (lo + m) n ys → Good lo (m + n) (xs ++ ys)
   good_both {lo} {m} {n} xs ys h k = record {
     written = written_both enums tags stood xs ys h.written k.written;
-    sites = sites_both lo (m + n) xs ys (sites_later lo m lo (m + n) (omega arith) (omega arith) xs h.sites) (sites_later (lo + m) n lo (m + n) (omega arith) (omega arith) ys k.sites);
+    sites = each_both (IsOfSite lo (m + n)) xs ys (sites_later lo m lo (m + n) (omega arith) (omega arith) xs h.sites) (sites_later (lo + m) n lo (m + n) (omega arith) (omega arith) ys k.sites);
     differ = all_differ lo m n xs ys h.sites k.sites h.differ k.differ;
     few = (let l : length (xs ++ ys) ≡ length xs + length ys = length-append xs ys in let a = h.few in let b = k.few in omega (arith, l, a, b));
     within = λ z. (let a = h.within z in let b = k.within a in omega (arith, b));
@@ -140,7 +189,7 @@ module _ (enums tags stood : List Name) where
       let n : length (arguments_kept site 0 ts) ≡ count ts = arguments_long site 0 ts in
       subst (λ zs. AreWrittenTemporaries enums tags stood (arguments_kept site 0 ts ++ zs) × AreOfSites site 1 (arguments_kept site 0 ts ++ zs) × AllDiffer (arguments_kept site 0 ts ++ zs) × (length (arguments_kept site 0 ts ++ zs) ≤ 17) × ((u : CType) → DiffersFrom (record { name = designator_name site; ctype = u }) (arguments_kept site 0 ts ++ zs))) (sym q) (
         written_both enums tags stood (arguments_kept site 0 ts) (x ∷ []) (arguments_written site 0 ts h) (result_scalar wanted t r e, w, tt),
-        sites_both site 1 (arguments_kept site 0 ts) (x ∷ []) (arguments_at site 0 ts l few) (at_site site 0 x l (omega (arith, l)) (inr (inr refl)), tt),
+        each_both (IsOfSite site 1) (arguments_kept site 0 ts) (x ∷ []) (arguments_at site 0 ts l few) (at_site site 0 x l (omega (arith, l)) (inr (inr refl)), tt),
         with_result site 0 t ts l few (arguments_differ site 0 ts l few),
         omega (arith, long, n, m),
         λ u. differs_both (record { name = designator_name site; ctype = u }) (arguments_kept site 0 ts) (x ∷ []) (pointer_differs site 0 u ts l few) ((names_differ site site 0 0 l l (omega (arith, l)) (omega (arith, l))).designator_result, tt),
@@ -165,71 +214,12 @@ module _ (enums tags stood : List Name) where
   called_good site wanted None h = record { written = tt; sites = tt; differ = tt; few = omega arith; within = λ _. omega (arith, h) }
   called_good site wanted (Some c) h = called_by site wanted c.pointer_type c.parameters c.returns h
 
-  module _ (sites : Sites) where
-    abbrev mutual
-      -- what is called at each site of an expression
-      pub CallsGood : (before : ℕ) → Expr → Type 0
-      CallsGood b (comma at es) = AllGood b es
-      CallsGood b (cast at t e) = CallsGood b e
-      CallsGood b (call at d es) = CalledGood (b + calls d) (sites (b + calls d)) × CallsGood b d × AllGood (suc (b + calls d)) es
-      CallsGood b (member at how e x) = CallsGood b e
-      CallsGood b (postfix at op e) = CallsGood b e
-      CallsGood b (prefix at pre_increment e) = CallsGood b e
-      CallsGood b (prefix at pre_decrement e) = CallsGood b e
-      CallsGood b (unary at op e) = CallsGood b e
-      CallsGood b (index at e f) = CallsGood b e × CallsGood (b + calls e) f
-      CallsGood b (binary at op e f) = CallsGood b e × CallsGood (b + calls e) f
-      CallsGood b (assign at op e f) = CallsGood b e × CallsGood (b + calls e) f
-      CallsGood b (conditional at c e f) = CallsGood b c × CallsGood (b + calls c) e × CallsGood (b + calls c + calls e) f
-      CallsGood b x = Unit {0}
+  -- what is called at each of n sites
+  abbrev pub CallsGood : Sites → (lo n : ℕ) → Type 0
+  CallsGood sites lo n = (site : ℕ) → lo ≤ site → site < lo + n → CalledGood site (sites site)
 
-      pub AllGood : (before : ℕ) → Exprs → Type 0
-      AllGood b no_exprs = Unit {0}
-      AllGood b (more_exprs e es) = CallsGood b e × AllGood (b + calls e) es
-
-    -- the property of the operand of a unary
-    abbrev Operand : (before : ℕ) → Expr → Type 0
-    Operand b (unary at op e) = Good b (calls e) (kept sites b false e)
-    Operand b e = Unit {0}
-
-    unary_good : (at op : ℕ) (e : Expr) (b : ℕ) (wanted : Bool) → Good b (calls e) (kept sites b true e) → Operand b e → Good b (calls e) (kept sites b wanted (unary at op e))
-    unary_good at op e b true h k = h
-    unary_good at op (unary p o e) b false h k = cond_both (is_address_of_indirection op o) (kept sites b false e) (kept sites b true e) (Good b (calls e)) (λ _. k) (λ _. h)
-    unary_good at op e b false h k = h
-
-    mutual
-      pub kept_good : (x : Expr) (b : ℕ) (wanted : Bool) → CallsGood b x → Good b (calls x) (kept sites b wanted x)
-      kept_good (comma at es) b wanted h = members_good es b wanted h
-      kept_good (cast at t e) b wanted h = cond_both (is_void_type t) (kept sites b false e) (kept sites b true e) (Good b (calls e)) (λ _. kept_good e b false h) (λ _. kept_good e b true h)
-      kept_good (call at d es) b wanted h =
-          let s : ℕ = b + calls d in
-          let one : s + 1 ≡ suc s = omega arith in
-          let more : 1 + calls_of_all es ≡ suc (calls_of_all es) = omega arith in
-          let rest : Good (s + 1) (calls_of_all es) (kept_of_arguments sites (suc s) es) = subst (λ k. Good k (calls_of_all es) (kept_of_arguments sites (suc s) es)) (sym one) (arguments_good es (suc s) h.2) in
-          good_both (kept sites b true d) (temporaries_where s wanted (sites s) ++ kept_of_arguments sites (suc s) es) (kept_good d b true h.1)
-          (subst (λ n. Good s n (temporaries_where s wanted (sites s) ++ kept_of_arguments sites (suc s) es)) more (good_both (temporaries_where s wanted (sites s)) (kept_of_arguments sites (suc s) es) (called_good s wanted (sites s) h.0) rest))
-      kept_good (member at how e x) b wanted h = kept_good e b true h
-      kept_good (postfix at op e) b wanted h = kept_good e b true h
-      kept_good (prefix at pre_increment e) b wanted h = kept_good e b true h
-      kept_good (prefix at pre_decrement e) b wanted h = kept_good e b true h
-      kept_good (unary at op e) b wanted h = unary_good at op e b wanted (kept_good e b true h) (operand_good e b h)
-      kept_good (index at e f) b wanted h = good_both (kept sites b true e) (kept sites (b + calls e) true f) (kept_good e b true h.0) (kept_good f (b + calls e) true h.1)
-      kept_good (binary at op e f) b wanted h = good_both (kept sites b true e) (kept sites (b + calls e) true f) (kept_good e b true h.0) (kept_good f (b + calls e) true h.1)
-      kept_good (assign at op e f) b wanted h = good_both (kept sites b true e) (kept sites (b + calls e) true f) (kept_good e b true h.0) (kept_good f (b + calls e) true h.1)
-      kept_good (conditional at c e f) b wanted h =
-          good_both (kept sites b true c) (kept sites (b + calls c) true e ++ kept sites (b + calls c + calls e) true f) (kept_good c b true h.0)
-          (good_both (kept sites (b + calls c) true e) (kept sites (b + calls c + calls e) true f) (kept_good e (b + calls c) true h.1) (kept_good f (b + calls c + calls e) true h.2))
-      kept_good x b wanted h = none_kept
-
-      operand_good : (x : Expr) (b : ℕ) → CallsGood b x → Operand b x
-      operand_good (unary at op e) b h = kept_good e b false h
-      operand_good x b h = tt
-
-      arguments_good : (es : Exprs) (b : ℕ) → AllGood b es → Good b (calls_of_all es) (kept_of_arguments sites b es)
-      arguments_good no_exprs b h = none_kept
-      arguments_good (more_exprs e es) b h = good_both (kept sites b true e) (kept_of_arguments sites (b + calls e) es) (kept_good e b true h.0) (arguments_good es (b + calls e) h.1)
-
-      members_good : (es : Exprs) (b : ℕ) (wanted : Bool) → AllGood b es → Good b (calls_of_all es) (kept_of_members sites b wanted es)
-      members_good no_exprs b wanted h = none_kept
-      members_good (more_exprs e no_exprs) b wanted h = (let z : calls e ≡ calls e + 0 = omega arith in subst (λ n. Good b n (kept sites b wanted e)) z (kept_good e b wanted h.0))
-      members_good (more_exprs e (more_exprs f es)) b wanted h = good_both (kept sites b false e) (kept_of_members sites (b + calls e) wanted (more_exprs f es)) (kept_good e b false h.0) (members_good (more_exprs f es) (b + calls e) wanted h.1)
+  pub kept_good : (sites : Sites) (x : Expr) (b : ℕ) (wanted : Bool) → CallsGood sites b (calls x) → Good b (calls x) (kept sites b wanted x)
+  kept_good sites x b wanted h =
+      kept_has sites (λ lo n xs. CallsGood sites lo n → Good lo n xs) (λ lo _. none_kept)
+      (λ lo m n xs ys f g h. good_both xs ys (f (λ s l k. h s l (omega (arith, k)))) (g (λ s l k. h s (omega (arith, l)) (omega (arith, k)))))
+      (λ s wanted h. called_good s wanted (sites s) (h s (omega arith) (omega arith))) x b wanted h

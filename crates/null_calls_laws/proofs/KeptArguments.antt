@@ -1,7 +1,7 @@
 -- The arguments of a marked call are kept in temporaries, one after the other.
 use Rattle.std.proofs.Common.{◌≡◌, ℕ, suc, ◌+◌, true, false, ◌&&◌, List, [], ◌∷◌, ◌++◌, length, refl, ap, ap₂, sym, subst, ◌∙◌, arith}
 use Rattle.std.proofs.lemmas.List.{append-nil}
-use Rattle.c_tree.specs.Tree.{CType, integer, pointer, CTypes, no_types, more_types, list_of, Program}
+use Rattle.c_tree.specs.Tree.{CType, CTypes, no_types, more_types, list_of, Program}
 use Rattle.c_tree.specs.Tree as typed
 use Rattle.c_tree.specs.Operands.{IsScalar}
 use Rattle.c_syntax.specs.Tree.{Expr, a_name, Exprs, no_exprs, more_exprs}
@@ -27,20 +27,11 @@ use Rattle.null_calls_laws.specs.Tabled.{AllTabled, AreFound}
 use Rattle.null_calls_laws.specs.Follow.{types_of, AllGo}
 use Rattle.null_calls_laws.proofs.Forms.{types_both, found_first, found_rest, value_goes}
 use Rattle.null_calls_laws.specs.KeptArguments.{NearBy, ArgumentsAreKept, KeptArgumentsGo}
+use Rattle.c_rules_laws.proofs.MadeTypes.{scalar_result}
+use Rattle.null_calls_laws.proofs.BehindArguments.{result_value}
 use Rattle.null_calls_laws.proofs.AddedParts.{temporaries_are_set}
-pub use Rattle.c_rules_laws.proofs.Holding.{first_fine, and_left, and_right}
-pub use Rattle.null_calls_laws.proofs.Leaves.{same_fine}
-
--- what may be assigned to has a scalar type
-pub scalar_fits : (t : CType) (g : TypedExpression) → fits t g ≡ true → IsScalar t
-scalar_fits (integer i) g e = tt
-scalar_fits (pointer t) g e = tt
-scalar_fits t g e = absurd (let q : false ≡ true = e in cc)
-
-scalar_value : (env : Env) (at : ℕ) (t : CType) (e : typed.Expr) → IsScalar t → value_at env at (fine (typed_value t e not_constant)) ≡ fine (typed_value t e not_constant)
-scalar_value env at (integer i) e h = refl
-scalar_value env at (pointer t) e h = refl
-scalar_value env at t e h = absurd h
+pub use Rattle.c_rules_laws.proofs.Holding.{first_fine, and_left, and_right, fine_same}
+pub use Rattle.c_rules_laws.proofs.RightTypedExpressions.{fits_scalar}
 
 pub follows_fine : (p : Program) (k : ℕ) (ts : List CType) (r s : Checked TypedExpression) (g : TypedExpression) → Follows p k ts r s → r ≡ fine g → (x : typed.Expr) × (s ≡ fine (remade g x)) × IsRemade p k ts g x
 follows_fine p k ts r s g h e = subst (λ z. Follows p k ts z s) e h
@@ -55,19 +46,19 @@ module _ (p : Program) (sites : Sites) (env : Env) (w : More) where
   kept_go : (es : Exprs) (ps : CTypes) (slack : ℕ) → AllGo p sites env w es → (b b' : Before) (at site i j k : ℕ) (rest : Exprs) (gs : List TypedExpression) → AllNamed sites b.sites es → AllTabled p sites L b es → AreFound w.names j (arguments_kept site i ps) → AreFound w.names k (kept_of_arguments sites b.sites es) → NearBy slack b b'
       → trees L b es ≡ fine gs → all_fit ps gs ≡ true → length gs ≡ count ps → ArgumentsAreKept p sites env w slack b b' at site i j k es rest ps gs
   kept_go no_exprs no_types slack l b b' at site i j k rest gs n t f found r e fit long =
-      let none : gs ≡ [] = same_fine gs [] (sym e) in
+      let none : gs ≡ [] = fine_same gs [] (sym e) in
       subst (λ z. ArgumentsAreKept p sites env w slack b b' at site i j k no_exprs rest no_types z) (sym none) (record { given = []; last = b'; near = r; chain = λ hs q. q; types = refl; trees_kept = λ typed_rest hs q. q })
-  kept_go no_exprs (more_types u ps) slack l b b' at site i j k rest gs n t f found r e fit long = absurd (let q : length gs ≡ 0 = ap length (same_fine gs [] (sym e)) in omega (arith, q, long))
+  kept_go no_exprs (more_types u ps) slack l b b' at site i j k rest gs n t f found r e fit long = absurd (let q : length gs ≡ 0 = ap length (fine_same gs [] (sym e)) in omega (arith, q, long))
   kept_go (more_exprs a es) no_types slack l b b' at site i j k rest gs n t f found r e fit long =
-      (let c = first_fine (value L b a) (trees L (after b a) es) (λ g gs. fine (g ∷ gs)) gs e in absurd (let q : length gs ≡ suc (length c.1) = ap length (same_fine gs (c.0 ∷ c.1) (sym c.4)) in omega (arith, q, long)))
+      (let c = first_fine (value L b a) (trees L (after b a) es) (λ g gs. fine (g ∷ gs)) gs e in absurd (let q : length gs ≡ suc (length c.1) = ap length (fine_same gs (c.0 ∷ c.1) (sym c.4)) in omega (arith, q, long)))
   kept_go (more_exprs a es) (more_types u ps) slack l b b' at site i j k rest gs n t f found r e fit long =
       let c = first_fine (value L b a) (trees L (after b a) es) (λ g gs. fine (g ∷ gs)) gs e in
       let g : TypedExpression = c.0 in
       let gs2 : List TypedExpression = c.1 in
-      let same : gs ≡ g ∷ gs2 = same_fine gs (g ∷ gs2) (sym c.4) in
+      let same : gs ≡ g ∷ gs2 = fine_same gs (g ∷ gs2) (sym c.4) in
       let fits_all : (fits u g && all_fit ps gs2) ≡ true = subst (λ z. all_fit (more_types u ps) z ≡ true) same fit in
       let fits_one : fits u g ≡ true = and_left (fits u g) (all_fit ps gs2) fits_all in
-      let scalar : IsScalar u = scalar_fits u g fits_one in
+      let scalar : IsScalar u = fits_scalar u g fits_one in
       let longer : length (g ∷ gs2) ≡ suc (count ps) = subst (λ z. length z ≡ suc (count ps)) same long in
       let xs : List Temporary = kept sites b.sites true a in
       let ys : List Temporary = kept_of_arguments sites (b.sites + calls a) es in
@@ -80,7 +71,7 @@ module _ (p : Program) (sites : Sites) (env : Env) (w : More) where
       let fits_too : fits u (remade g x) ≡ true = fits_same p k [] [] u (kind_of u) g x ∙ fits_one in
       let kept_one : TypedExpression = typed_value u (typed.assign u (typed.variable u false j) (tree_of (assigned u (remade g x)))) not_constant in
       let set : tree R b' (kept_in at name a1) ≡ fine kept_one = temporaries_are_set env w b' at name j u a1 (remade g x) scalar f.0 h.1 fits_too in
-      let one : value R b' (kept_in at name a1) ≡ fine kept_one = ap (value_at R at) set ∙ scalar_value R at u (typed.assign u (typed.variable u false j) (tree_of (assigned u (remade g x)))) scalar in
+      let one : value R b' (kept_in at name a1) ≡ fine kept_one = ap (value_at R at) set ∙ result_value R at u (typed.assign u (typed.variable u false j) (tree_of (assigned u (remade g x)))) (scalar_result u scalar) in
       let b2 : Before = after b' (kept_in at name a1) in
       let counted = counts_stay sites b.sites true a n.0 in
       let near2 : NearBy slack (after b a) b2 = record { sites = (let q = r.sites in let v = counted.calls_most in omega (arith, q, v)); strings = ap₂ (λ u v. u ++ v) r.strings counted.strings_same; cells = ap₂ (λ c ws. c + string_cells ws) r.cells counted.strings_same } in

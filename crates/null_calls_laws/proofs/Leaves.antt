@@ -1,24 +1,22 @@
 -- Names, constants and strings, and what isn't evaluated, give the same in both units: there is no call in their trees.
-use Rattle.std.proofs.Common.{◌≡◌, ℕ, suc, ◌+◌, Bool, true, List, [], length, Option, Some, None, refl, ap, ap₂, sym, subst, ◌∙◌}
+use Rattle.std.proofs.Common.{◌≡◌, ℕ, suc, ◌+◌, Bool, true, List, [], length, refl, ap, ap₂, sym, ◌∙◌}
 use Rattle.c_tree.specs.Tree.{CType, Program}
 use Rattle.c_rules.specs.Checked.{Checked, fine, faulty, on, gives}
 use Rattle.c_rules.specs.Names.{Name}
-use Rattle.c_rules.specs.Scopes.{Env, Binding, Meaning, a_static, a_function, unknown, Before, lookup}
+use Rattle.c_rules.specs.Scopes.{Env, Meaning, a_static, a_function, unknown, Before, lookup}
 use Rattle.c_rules.specs.TypedExpression.{Form, a_value, TypedExpression}
-use Rattle.c_rules.specs.PrimaryExpressions.{used, object_number, function_value_number, meant, bound, named_expression, integer_expression, string_fits, typed_string, string_expression}
+use Rattle.c_rules.specs.PrimaryExpressions.{used, object_number, function_value_number, meant, named_expression, integer_expression, string_fits, typed_string, string_expression}
 use Rattle.c_rules.specs.UnaryExpressions.{size_of, size_of_expression, size_of_type}
 use Rattle.null_calls_laws.specs.InstrumentedPrograms.{expr, kept}
 use Rattle.null_calls_laws.specs.WithoutSites.{unsited}
 use Rattle.c_rules_laws.specs.TypedAlike.{plain_scope, instrumented_scope, More}
 use Rattle.c_rules_laws.proofs.Leads.{Leads}
+use Rattle.c_rules_laws.proofs.Operators.{bound_holds}
 use Rattle.null_calls_laws.specs.Remade.{inner_of, with_inner, remade, Follows}
 use Rattle.null_calls_laws.specs.Counts.{Near}
 use Rattle.c_rules.proofs.Integers.{integer_cases, size_holds}
 pub use Rattle.c_rules.proofs.Below.{Holds, demand_holds}
-pub use Rattle.c_rules_laws.proofs.Holding.{after_part}
-
-pub same_fine : {A : Type 0} (x y : A) → fine x ≡ fine y → x ≡ y
-same_fine x y e = subst (Holds (λ z. x ≡ z)) e refl
+pub use Rattle.c_rules_laws.proofs.Holding.{after_part, fine_same as same_fine}
 
 same_inner : (f : Form) → with_inner f (inner_of f) ≡ f
 same_inner (a_value e) = refl
@@ -43,12 +41,8 @@ module _ (p : Program) where
   meant_leaf env at x (unknown f fs) = tt
   meant_leaf env at x m = record { types = refl; tree = λ k. refl }
 
-  bound_leaf : (env : Env) (at : ℕ) (x : Name) (o : Option Binding) → Holds IsLeaf (bound env at x o)
-  bound_leaf env at x None = tt
-  bound_leaf env at x (Some b) = meant_leaf env at x b.means
-
   pub named_leaf : (env : Env) (at : ℕ) (x : Name) → Holds IsLeaf (named_expression env at x)
-  named_leaf env at x = bound_leaf env at x (lookup env.names x)
+  named_leaf env at x = bound_holds IsLeaf env at x (lookup env.names x) (λ b _. meant_leaf env at x b.means)
 
   pub integer_leaf : (n : ℕ) (u : Bool) → IsLeaf (integer_expression n u)
   integer_leaf n u = integer_cases IsLeaf n u (λ _. record { types = refl; tree = λ k. refl }) (record { types = refl; tree = λ k. refl })

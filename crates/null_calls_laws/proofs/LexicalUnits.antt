@@ -17,9 +17,8 @@ use Rattle.null_calls_laws.specs.Lexical.{AreItemsLexical, IsItemLexical, IsUnit
 use Rattle.c_rules_laws.proofs.UnitItems.{body_lexical}
 use Rattle.null_calls_laws.proofs.WholeUnits.{unit_program}
 use Rattle.null_calls_laws.proofs.Sites.{sites_fit}
-use Rattle.null_calls_laws.proofs.Writable.{FitsWhere}
 use Rattle.null_calls_laws.specs.LexicalTexts.{InstrumentedUnitsAreLexical}
-use Rattle.null_calls_laws.proofs.Instrumented.{block_lexical}
+use Rattle.null_calls_laws.proofs.FineParts.{FitsWhere, of_texts, block_stays}
 
 -- temporaries have no initialisers
 declared_lexical : (tags : List Name) (at : ℕ) (xs : List Temporary) (is : BlockItems) → AreItemsLexical is → AreItemsLexical (declared_before tags at xs is)
@@ -30,7 +29,7 @@ module _ (sites : Sites) (tags : List Name) (fit : (s : ℕ) → FitsWhere (site
   item_lexical : (i : Item) (b : ℕ) → IsItemLexical i → IsItemLexical (units.item sites tags b i)
   item_lexical (function_item at class s d body) b h =
       let is : BlockItems = items_of_body body in
-      (h.0, declared_lexical tags at (kept_of_block sites b is) (items_of_block sites b is) (block_lexical sites fit is b (body_lexical body h.1)))
+      (h.0, declared_lexical tags at (kept_of_block sites b is) (items_of_block sites b is) (block_stays sites fit of_texts is b (body_lexical body h.1)))
   item_lexical i b h = h
 
   items_lexical : (is : Items) (b : ℕ) → IsUnitLexical is → IsUnitLexical (units.items sites tags b is)

@@ -5,11 +5,8 @@ pub mod Alike
 pub mod ExpressionCounts
 pub mod StatementCounts
 pub mod ExpressionHeights
-pub mod StatementHeights
-pub mod StatementTags
 pub mod All
 pub mod Binary
-pub mod Constants
 pub mod Operands
 pub mod Unary
 pub mod Commas
@@ -48,7 +45,6 @@ pub mod CallsOfInitialisers
 pub mod Kept
 pub mod CallsOfStatements
 pub mod Tables
-pub mod TypesOfExpressions
 pub mod FileNames
 pub mod Items
 pub mod Silent
@@ -62,7 +58,6 @@ pub mod Facts
 pub mod FileWritten
 pub mod NamesOfUnits
 pub mod Prototypes
-pub mod SpelledCasts
 pub mod TypedUnits
 pub mod FineParts
 pub mod MembersOfMarkedCalls
@@ -72,8 +67,6 @@ pub mod Spelled
 pub mod TagsOfUnits
 pub mod Texts
 pub mod UnitForms
-pub mod Writable
-pub mod Instrumented
 pub mod LexicalUnits
 pub mod InstrumentedTexts
 pub mod PieceLemmas

@@ -23,7 +23,7 @@ use Rattle.null_calls_laws.proofs.Declared.{among_left, among_right, among_both}
 use Rattle.c_rules_laws.proofs.DistinctNames.{new_kept, new_there}
 use Rattle.null_calls_laws.proofs.FunctionTags.{among_each, is_in, among_on, among_itself}
 use Rattle.null_calls_laws.proofs.FunctionItems.{item_tags}
-use Rattle.null_calls_laws.proofs.FileWritten.{form_tags, form_whole}
+use Rattle.c_rules_laws.proofs.Callers.{form_tags, form_whole}
 use Rattle.null_calls_laws.proofs.Aside.{IsPlain, always, function_plain}
 use Rattle.null_calls_laws.proofs.Facts.{UnitFacts}
 

@@ -10,7 +10,7 @@ use Rattle.c_rules.specs.Conversions.{kind_of}
 use Rattle.c_rules.specs.Blocks.{StatementTree, bare, with_tree, joined, one_more, appended, some_more}
 use Rattle.c_rules.specs.Statements.{for_of, Labelled, label_kind, label_type, labelled, are_distinct, switch_of}
 use Rattle.null_calls_laws.specs.InstrumentedPrograms as with_null_calls
-use Rattle.null_calls_laws.specs.WithoutSites.{unsited, unsited_maybe, unsited_stmt, unsited_stmts, unsited_groups}
+use Rattle.null_calls_laws.specs.WithoutSites.{unsited, unsited_stmt, unsited_stmts, unsited_groups}
 use Rattle.null_calls_laws.specs.Heads.{TreeFollows, MaybeFollows, OperandFollows, StmtFollows}
 use Rattle.null_calls_laws.specs.DeclarationsBeside.{StatementTreeFollow}
 use Rattle.null_calls_laws.specs.StatementsBeside.{StatementTreeFollows, GroupsFollow}
@@ -164,12 +164,8 @@ module _ (p : Program) where
           three_give r' s' t' Else h.0 (with_tree q i.0) (with_tree u j.0) h.1 i.1 j.1,
           ap₂ (λ xs ys. xs ++ ys) i.2 j.2,
           ap₂ (λ xs ys. xs ++ ys) h.2 (ap₂ (λ xs ys. xs ++ ys) i.3 j.3) ∙ joint,
-          else_tree h.0 i.0 j.0 c q.tree u.tree h.3 (i.4 ∙ ap (λ zs. with_null_calls.stmt p (k + length zs) q.tree) (sym h.2)) (j.4 ∙ ap₂ (λ xs ys. with_null_calls.stmt p (k + length xs + length ys) u.tree) (sym h.2) (sym i.3)),
+          λ z. typed.if_else (h.3 z) ((i.4 ∙ ap (λ zs. with_null_calls.stmt p (k + length zs) q.tree) (sym h.2)) z) ((j.4 ∙ ap₂ (λ xs ys. with_null_calls.stmt p (k + length xs + length ys) u.tree) (sym h.2) (sym i.3)) z),
         )
-      where
-        else_tree : (x : typed.Expr) (y z : typed.Stmt) (c : typed.Expr) (m n : typed.Stmt) → unsited x ≡ with_null_calls.expr p k true c → unsited_stmt y ≡ with_null_calls.stmt p (k + length (with_null_calls.kept p true c)) m → unsited_stmt z ≡ with_null_calls.stmt p (k + length (with_null_calls.kept p true c) + length (with_null_calls.kept_of_stmt p m)) n
-            → unsited_stmt (typed.if_else x y z) ≡ with_null_calls.stmt p k (typed.if_else c m n)
-        else_tree x y z c m n e f g = λ i. typed.if_else (e i) (f i) (g i)
     else_follows r r' s s' t t' h g l = tt
 
   module _ (k : ℕ) (ts us vs ws all : List CType) (joint : ts ++ (us ++ (vs ++ ws)) ≡ all) where
@@ -189,12 +185,7 @@ module _ (p : Program) where
           three_give r' (beside s' t') o' For (with_tree q h.0) (record { first = i.0; second = j.0 }) (with_tree u l.0) h.1 (both_gives s' t' (λ x y. fine (record { first = x; second = y })) i.0 j.0 i.1 j.1) l.1,
           ap₂ (λ xs ys. xs ++ ys) h.2 l.2,
           ap₂ (λ xs ys. xs ++ ys) h.3 (ap₂ (λ xs ys. xs ++ ys) i.2 (ap₂ (λ xs ys. xs ++ ys) j.2 l.3)) ∙ joint,
-          for_tree h.0 i.0 j.0 l.0 q.tree m n u.tree h.4 (i.3 ∙ ap (λ zs. with_null_calls.maybe p (k + length zs) true m) (sym h.3)) (j.3 ∙ ap₂ (λ xs ys. with_null_calls.maybe p (k + length xs + length ys) false n) (sym h.3) (sym i.2))
-              (l.4 ∙ (ap₂ (λ xs ys. with_null_calls.stmt p (k + length xs + length ys + length vs) u.tree) (sym h.3) (sym i.2) ∙ ap (λ zs. with_null_calls.stmt p (k + length (with_null_calls.kept_of_stmts p q.tree) + length (with_null_calls.kept_of_maybe p true m) + length zs) u.tree) (sym j.2))),
+          λ z. typed.for_loop (h.4 z) ((i.3 ∙ ap (λ zs. with_null_calls.maybe p (k + length zs) true m) (sym h.3)) z) ((j.3 ∙ ap₂ (λ xs ys. with_null_calls.maybe p (k + length xs + length ys) false n) (sym h.3) (sym i.2)) z)
+              ((l.4 ∙ (ap₂ (λ xs ys. with_null_calls.stmt p (k + length xs + length ys + length vs) u.tree) (sym h.3) (sym i.2) ∙ ap (λ zs. with_null_calls.stmt p (k + length (with_null_calls.kept_of_stmts p q.tree) + length (with_null_calls.kept_of_maybe p true m) + length zs) u.tree) (sym j.2))) z),
         )
-      where
-        for_tree : (x : typed.Stmts) (y z : typed.Maybe) (v : typed.Stmt) (q : typed.Stmts) (m n : typed.Maybe) (u : typed.Stmt) → unsited_stmts x ≡ with_null_calls.stmts p k q → unsited_maybe y ≡ with_null_calls.maybe p (k + length (with_null_calls.kept_of_stmts p q)) true m
-            → unsited_maybe z ≡ with_null_calls.maybe p (k + length (with_null_calls.kept_of_stmts p q) + length (with_null_calls.kept_of_maybe p true m)) false n
-            → unsited_stmt v ≡ with_null_calls.stmt p (k + length (with_null_calls.kept_of_stmts p q) + length (with_null_calls.kept_of_maybe p true m) + length (with_null_calls.kept_of_maybe p false n)) u → unsited_stmt (typed.for_loop x y z v) ≡ with_null_calls.stmt p k (typed.for_loop q m n u)
-        for_tree x y z v q m n u e f g h = λ i. typed.for_loop (e i) (f i) (g i) (h i)
     for_follows r r' s s' t t' o o' h a b c = tt

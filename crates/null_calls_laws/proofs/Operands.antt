@@ -5,21 +5,15 @@ use Rattle.c_tree.specs.Tree.{CType, integer, pointer, array, struct, function, 
 use Rattle.c_tree.specs.Layout.{cells}
 use Rattle.c_rules.specs.Checked.{Checked, fine, faulty, demand, on}
 use Rattle.c_rules.specs.Scopes.{Env, layout_of}
-use Rattle.c_rules.specs.TypedExpression.{Form, a_value, behind, Constant, not_constant, TypedExpression, typed_value, tree_of_form, tree_of, is_known_zero, is_null}
+use Rattle.c_rules.specs.TypedExpression.{Form, a_value, behind, Constant, not_constant, TypedExpression, typed_value, tree_of_form, tree_of, is_null}
 use Rattle.c_rules.specs.Constants.{constant_converted, constant_decayed}
 use Rattle.c_rules.specs.Conversions.{Kind, an_integer, a_pointer, neither, kind_of, few_parts, loaded, valued_as, valued, cast_to, has_integer, converted_to, null_of, assigned_as, assigned}
 use Rattle.null_calls_laws.specs.InstrumentedPrograms.{expr, kept}
 use Rattle.null_calls_laws.specs.WithoutSites.{unsited}
 use Rattle.c_rules_laws.specs.ConstantForm.{IsConst}
 use Rattle.null_calls_laws.specs.Remade.{inner_of, with_inner, remade, IsRemade, Follows, IsOperand}
-use Rattle.c_rules_laws.proofs.ConstantForms.{decayed_const}
+use Rattle.c_rules_laws.proofs.ConstantForms.{decayed_const, zero_const}
 pub use Rattle.c_rules_laws.proofs.ConstantForms.{converted_const}
-
--- ## Constants
-
-pub zero_const : (c : Constant) → is_known_zero c ≡ true → IsConst c
-zero_const not_constant h = absurd (let q : false ≡ true = h in cc)
-zero_const c h = tt
 
 module _ (p : Program) where
   -- ## Trees

@@ -8,15 +8,14 @@ use Rattle.c_meaning.specs.Mentions.{Direct, Through}
 use Rattle.c_meaning.specs.CallGraph.{is_marked}
 use Rattle.c_syntax.specs.Tree.{Expr, a_name, call, Exprs, no_exprs, more_exprs}
 use Rattle.c_rules.specs.Checked.{Checked, fine, faulty, demand, on, both, all_three}
-use Rattle.c_rules.specs.Names.{Name}
 use Rattle.c_rules.specs.Types.{count}
-use Rattle.c_rules.specs.Scopes.{Env, Binding, Meaning, a_function, Context, evaluated, sized, folded, lookup, Before}
+use Rattle.c_rules.specs.Scopes.{Env, Context, evaluated, sized, folded, Before}
 use Rattle.c_rules.specs.Counts.{calls, after, after_designator}
 use Rattle.c_rules.specs.TypedExpression.{not_constant, TypedExpression, typed_value, tree_of}
 use Rattle.c_rules.specs.Conversions.{kind_of}
 use Rattle.c_rules.specs.PrimaryExpressions.{used, function_number, named_expression}
 use Rattle.c_rules.specs.PostfixExpressions.{site_in, site_of, Designator, direct, through, Callee, callee_of_type, callee_through, callee_by_value, all_fit, passed, call_of, as_many_as, called}
-use Rattle.c_rules.specs.Expressions.{callee_meant, callee_bound, callee, tree, trees, value}
+use Rattle.c_rules.specs.Expressions.{callee, tree, trees, value}
 use Rattle.null_calls_laws.specs.MarkedCalls.{Called, Sites}
 use Rattle.null_calls_laws.specs.Temporaries.{Temporary, temporaries_where}
 use Rattle.null_calls_laws.specs.InstrumentedExpressions.{call_where, expr, arguments, kept, kept_of_arguments}
@@ -33,7 +32,9 @@ use Rattle.null_calls_laws.specs.Counts.{AreNamed, AllNamed, Near}
 use Rattle.null_calls_laws.proofs.ExpressionCounts.{places_near, counts_stay}
 use Rattle.null_calls_laws.specs.Tabled.{called_by, AreTabled, AllTabled, AreFound}
 use Rattle.null_calls_laws.specs.Follow.{types_of, ExprFollows, Goes, AllGo}
-use Rattle.null_calls_laws.proofs.Leaves.{Holds, same_fine, after_part, leaf_follows, named_leaf}
+use Rattle.c_rules_laws.proofs.Holding.{Holds, after_part, fine_same}
+use Rattle.c_rules_laws.proofs.Operators.{callee_holds}
+use Rattle.null_calls_laws.proofs.Leaves.{leaf_follows, named_leaf}
 use Rattle.null_calls_laws.proofs.Forms.{types_both, found_first, found_rest, value_goes}
 use Rattle.null_calls_laws.specs.PlainCalls.{UnmarkedCallsGo}
 use Rattle.null_calls_laws.proofs.BehindArguments.{cons}
@@ -94,16 +95,12 @@ module _ (p : Program) where
 
   value_leaf : (k at : ℕ) (r : Checked TypedExpression) → Follows p k [] r r → Holds (CalleeLeaf k) (on r (callee_by_value at))
   value_leaf k at (fine g) h =
-      (let o = operand p k [] g h.0 h.2 in let q = same_fine g (remade g h.0) h.1 in through_leaf k at (tree_of g) g.ctype o.types (subst (λ z. unsited (tree_of z) ≡ with_null_calls.expr p k true (tree_of g)) (sym q) o.tree))
+      (let o = operand p k [] g h.0 h.2 in let q = fine_same g (remade g h.0) h.1 in through_leaf k at (tree_of g) g.ctype o.types (subst (λ z. unsited (tree_of z) ≡ with_null_calls.expr p k true (tree_of g)) (sym q) o.tree))
   value_leaf k at (faulty f fs) h = tt
 
-  meant_callee : (env : Env) (k at place : ℕ) (y : Name) (r : Checked TypedExpression) (m : Meaning) → Follows p k [] r r → Holds (CalleeLeaf k) (callee_meant env at place y r m)
-  meant_callee env k at place y r (a_function t d) h = after_part (CalleeLeaf k) (used env.context place (function_number env y)) (callee_of_type place t) (λ n. type_leaf k place t n)
-  meant_callee env k at place y r m h = value_leaf k at r h
-
-  bound_callee : (env : Env) (k at place : ℕ) (y : Name) (r : Checked TypedExpression) (o : Option Binding) → Follows p k [] r r → Holds (CalleeLeaf k) (callee_bound env at place y r o)
-  bound_callee env k at place y r None h = value_leaf k at r h
-  bound_callee env k at place y r (Some b) h = meant_callee env k at place y r b.means h
+  callee_leaf : (env : Env) (k at : ℕ) (d : Expr) (r : Checked TypedExpression) → Follows p k [] r r → Holds (CalleeLeaf k) (callee env at d r)
+  callee_leaf env k at d r h =
+      callee_holds (λ _. CalleeLeaf k) env at d r (value_leaf k at r h) (λ place x b t defined _ _. after_part (CalleeLeaf k) (used env.context place (function_number env x)) (callee_of_type place t) (λ n. type_leaf k place t n))
 
   leaf_callee : (k : ℕ) (r s : Checked Callee) → Leads r s → Holds (CalleeLeaf k) r → CalleeFollows k [] r s
   leaf_callee k (fine f) s h l = (f.designator, h.0, l)
@@ -209,7 +206,7 @@ module _ (p : Program) (sites : Sites) (env : Env) (w : More) (plain : AreUnrese
       → CalleeFollows p k (types_of (kept sites b.sites true d)) (callee L at d (value L b d)) (callee R at (expr sites b.sites true d) (value R b' (expr sites b.sites true d)))
   callee_goes at (a_name place y) h b b' k n t f r =
       leaf_callee p k (callee L at (a_name place y) (value L b (a_name place y))) (callee R at (a_name place y) (value R b' (a_name place y))) (named_callee_leads env w plain alike at place y)
-      (bound_callee p L k at place y (value L b (a_name place y)) (lookup env.names y) (value_at_follows p k [] L place (named_expression L place y) (named_expression L place y) (leaf_follows p k (named_expression L place y) (named_expression L place y) (same_leads (named_expression L place y)) (named_leaf p L place y))))
+      (callee_leaf p L k at (a_name place y) (value L b (a_name place y)) (value_at_follows p k [] L place (named_expression L place y) (named_expression L place y) (leaf_follows p k (named_expression L place y) (named_expression L place y) (same_leads (named_expression L place y)) (named_leaf p L place y))))
   callee_goes at d h b b' k n t f r = other d h b b' k n t f r tt
     where
       other : (d : Expr) → ExprFollows p sites env w d → (b b' : Before) (k : ℕ) → AreNamed sites b.sites d → AreTabled p sites L b d → AreFound w.names k (kept sites b.sites true d) → Near b b' → IsNoName d

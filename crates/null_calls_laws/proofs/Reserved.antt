@@ -1,15 +1,13 @@
 -- The names of temporaries are reserved, so a temporary means the same where reserved names do.
 use Rattle.std.proofs.Common.{◌≡◌, ℕ, suc, ◌+◌, Bool, true, false, if◌then◌else◌, List, [], ◌∷◌, ◌++◌, Option, None, Some, refl, ◌∙◌}
 use Rattle.c_tree.specs.Tree.{CType, CTypes, no_types, more_types}
-use Rattle.c_syntax.specs.Tree.{Expr, comma, cast, call, member, postfix, prefix, unary, index, binary, assign, conditional, Exprs, no_exprs, more_exprs}
-use Rattle.c_syntax.specs.Tree.{pre_increment, pre_decrement}
+use Rattle.c_syntax.specs.Tree.{Expr}
 use Rattle.c_rules.specs.Names.{is_reserved}
 use Rattle.c_rules.specs.Scopes.{Binding}
-use Rattle.c_rules.specs.Counts.{calls}
 use Rattle.null_calls_laws.specs.MarkedCalls.{Called, Sites}
 use Rattle.null_calls_laws.specs.Temporaries.{result_name, is_kept, Temporary, designator_kept, arguments_kept, result_kept, temporaries_where}
-use Rattle.null_calls_laws.specs.InstrumentedExpressions.{is_void_type, is_address_of_indirection, kept, kept_of_arguments, kept_of_members}
-use Rattle.c_rules.proofs.Below.{either_has as by_type}
+use Rattle.null_calls_laws.specs.InstrumentedExpressions.{kept}
+use Rattle.null_calls_laws.proofs.Kept.{kept_has}
 use Rattle.null_calls_laws.specs.Tabled.{AreFound}
 use Rattle.null_calls_laws.specs.Standing.{ReservedMeanAlike, TemporariesStay}
 
@@ -48,45 +46,8 @@ call_reserved site wanted (Some c) = reserved_both _ _ (designator_reserved site
 
 -- ## Expressions
 
--- the operand of an operator whose value isn't wanted, where the operand is unary: it may be left out with the operator
-abbrev Operand : (sites : Sites) (b : ℕ) → Expr → Type 0
-Operand sites b (unary place inner e) = AreReserved (kept sites b false e)
-Operand sites b e = Unit {0}
-
-by_unary : (sites : Sites) (at op : ℕ) (x : Expr) (b : ℕ) (wanted : Bool) → AreReserved (kept sites b true x) → Operand sites b x → AreReserved (kept sites b wanted (unary at op x))
-by_unary sites at op (unary place inner e) b false h k = by_type AreReserved (is_address_of_indirection op inner) (kept sites b false e) (kept sites b true e) k h
-by_unary sites at op y b true h k = h
-by_unary sites at op y b false h k = h
-
-module _ (sites : Sites) where
-  mutual
-    pub expr_reserved : (x : Expr) (b : ℕ) (wanted : Bool) → AreReserved (kept sites b wanted x)
-    expr_reserved (comma at es) b wanted = members_reserved es b wanted
-    expr_reserved (cast at t e) b wanted = by_type AreReserved (is_void_type t) (kept sites b false e) (kept sites b true e) (expr_reserved e b false) (expr_reserved e b true)
-    expr_reserved (call at d es) b wanted = reserved_both _ _ (expr_reserved d b true) (reserved_both _ _ (call_reserved (b + calls d) wanted (sites (b + calls d))) (all_reserved es (suc (b + calls d))))
-    expr_reserved (member at how e x) b wanted = expr_reserved e b true
-    expr_reserved (postfix at op e) b wanted = expr_reserved e b true
-    expr_reserved (prefix at pre_increment e) b wanted = expr_reserved e b true
-    expr_reserved (prefix at pre_decrement e) b wanted = expr_reserved e b true
-    expr_reserved (unary at op e) b wanted = by_unary sites at op e b wanted (expr_reserved e b true) (operand_reserved e b)
-    expr_reserved (index at e f) b wanted = reserved_both _ _ (expr_reserved e b true) (expr_reserved f (b + calls e) true)
-    expr_reserved (binary at op e f) b wanted = reserved_both _ _ (expr_reserved e b true) (expr_reserved f (b + calls e) true)
-    expr_reserved (assign at op e f) b wanted = reserved_both _ _ (expr_reserved e b true) (expr_reserved f (b + calls e) true)
-    expr_reserved (conditional at c e f) b wanted = reserved_both _ _ (expr_reserved c b true) (reserved_both _ _ (expr_reserved e (b + calls c) true) (expr_reserved f (b + calls c + calls e) true))
-    expr_reserved d b wanted = tt
-
-    operand_reserved : (x : Expr) (b : ℕ) → Operand sites b x
-    operand_reserved (unary at op e) b = expr_reserved e b false
-    operand_reserved y b = tt
-
-    all_reserved : (es : Exprs) (b : ℕ) → AreReserved (kept_of_arguments sites b es)
-    all_reserved no_exprs b = tt
-    all_reserved (more_exprs e es) b = reserved_both (kept sites b true e) (kept_of_arguments sites (b + calls e) es) (expr_reserved e b true) (all_reserved es (b + calls e))
-
-    members_reserved : (es : Exprs) (b : ℕ) (wanted : Bool) → AreReserved (kept_of_members sites b wanted es)
-    members_reserved no_exprs b wanted = tt
-    members_reserved (more_exprs e no_exprs) b wanted = expr_reserved e b wanted
-    members_reserved (more_exprs e (more_exprs f es)) b wanted = reserved_both _ _ (expr_reserved e b false) (members_reserved (more_exprs f es) (b + calls e) wanted)
+pub expr_reserved : (sites : Sites) (x : Expr) (b : ℕ) (wanted : Bool) → AreReserved (kept sites b wanted x)
+expr_reserved sites x b wanted = kept_has sites (λ _ _ xs. AreReserved xs) (λ _. tt) (λ _ _ _ xs ys h k. reserved_both xs ys h k) (λ s wanted. call_reserved s wanted (sites s)) x b wanted
 
 pub temporaries_stay : TemporariesStay
 temporaries_stay sites names ns alike b k wanted x f = found_stay names ns alike k (kept sites b wanted x) (expr_reserved sites x b wanted) f

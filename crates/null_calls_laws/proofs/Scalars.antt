@@ -5,7 +5,7 @@ use Rattle.std.specs.List.{list_all}
 use Rattle.std.proofs.lemmas.List.Elements.{All-nil, All-cons, All-append, All-contains}
 use Rattle.std.proofs.lemmas.List.Sums.{AllPass-from_list_all}
 use Rattle.c_tree.specs.declared.value.IntType.{IntType}
-use Rattle.c_tree.specs.Tree.{CType, void, integer, pointer, function, CTypes, no_types, more_types, list_of, Program, type_of}
+use Rattle.c_tree.specs.Tree.{CType, void, pointer, function, CTypes, no_types, more_types, list_of, Program, type_of}
 use Rattle.c_tree.specs.Tree.{Expr, constant, function_name, string_place, variable, dereference, load, address_of, decay, discard, field, unary_operation, conversion, arithmetic, comparison, pointer_add, pointer_diff, and, or, assign, update, conditional, comma, call, call_through}
 use Rattle.c_tree.specs.Tree.{Exprs, no_exprs, more_exprs, Maybe, absent, there, Inits, no_inits, more_inits}
 use Rattle.c_tree.specs.Tree.{Stmt, block, evaluate, declare, if_else, while_loop, do_loop, for_loop, switch_on, return_value, Stmts, no_stmts, more_stmts, Groups, no_groups, more_groups}
@@ -18,6 +18,8 @@ use Rattle.c_meaning.specs.CallGraph.{callees, reaches, is_marked}
 use Rattle.c_meaning.proofs.Places.{get_left}
 use Rattle.c_meaning.proofs.Steps.{scalars_of}
 use Rattle.c_meaning.proofs.Keeps.{defined_at, undefined_at}
+use Rattle.c_rules.specs.Types.{is_result}
+use Rattle.c_rules_laws.proofs.MadeTypes.{result_is}
 use Rattle.null_calls_laws.proofs.Lists.{below, not_below, if_has, got_in, one_passes}
 use Rattle.null_calls_laws.proofs.FunctionPlaces.{through_type}
 use Rattle.null_calls_laws.specs.Temporaries.{is_kept}
@@ -25,20 +27,12 @@ use Rattle.null_calls_laws.specs.InstrumentedPrograms.{parameters_where, of_resu
 
 -- a function that gives a scalar or nothing
 abbrev gives_result : CType → Bool
-gives_result (function void ts) = true
-gives_result (function (integer i) ts) = true
-gives_result (function (pointer t) ts) = true
+gives_result (function r ts) = is_result r
 gives_result _ = false
 
 others_give : list_all gives_result (sys_types ++ null_types) ≡ true
 unfolding sys_types
 others_give = refl
-
-is_result : (r : CType) (ts : CTypes) → gives_result (function r ts) ≡ true → IsResult r
-is_result void ts h = tt
-is_result (integer i) ts h = tt
-is_result (pointer t) ts h = tt
-is_result r ts h = absurd (false≢true h)
 
 -- a result that is kept is a scalar
 pub kept_scalar : (wanted : Bool) (t : CType) → IsResult t → is_kept wanted t ≡ true → IsScalar t
@@ -60,7 +54,7 @@ module _ (p : Program) (n : ℕ) (typed : IsProgram p n) where
       let same : is.gives ≡ t = cc (is.type, g.2) in
       subst IsResult same is.result_type) (λ b.
       let c = got_in others (f - defined p) (function t ts) (undefined_at p.functions others f (function t ts) (not_below f (defined p) b) all) in
-      is_result t ts (subst (λ t. gives_result t ≡ true) c.2 (AllPass-from_list_all gives_result others others_give c.0 (function t ts) c.1)))
+      result_is t (subst (λ t. gives_result t ≡ true) c.2 (AllPass-from_list_all gives_result others others_give c.0 (function t ts) c.1)))
 
   -- some function of the type may be called where a call through a pointer is marked
   pub some_callee : (w : CType) → is_marked p (Through (pointer w)) ≡ true → (f : ℕ) × (called_type p f ≡ Some w)

@@ -1,6 +1,5 @@
 -- Initialisers of static objects have no calls; and what has no calls doesn't depend on how many stand before it.
-use Rattle.std.proofs.Common.{◌≡◌, ℕ, zero, suc, ◌+◌, ◌≤◌, Bool, true, List, [], ◌∷◌, ◌++◌, length, nat_le, refl, ap, ap₂, sym, subst, arith}
-use Rattle.std.specs.List.{range_with_len}
+use Rattle.std.proofs.Common.{◌≡◌, ℕ, suc, ◌+◌, ◌≤◌, Bool, true, List, ◌∷◌, ◌++◌, length, nat_le, refl, ap, ap₂, sym, subst, arith}
 use Rattle.std.proofs.lemmas.Bool.{leb-true}
 use Rattle.c_tree.specs.declared.value.IntType.TheVariants.{Char}
 use Rattle.c_tree.specs.Tree.{CType, integer, pointer, array}
@@ -20,6 +19,7 @@ use Rattle.c_rules.specs.Expressions.{value_at, place_at, access, after_operand,
 use Rattle.c_rules.specs.Initialisers.{Slots, copies, each, slots, capacity, takes_list, count_inits, text_of, defined_cell, cell_of, scalar_cell, array_cells, cells_of_one, cells_of_list, after_init, calls_of_init, calls_of_inits, calls_of_maybe_init, initialised, in_turn, initialised_static, text_fits}
 use Rattle.c_rules_laws.proofs.Holding.{Holds, on_holds, both_hold, demand_holds, behind_demand, after_part, held, on_fine}
 use Rattle.c_rules_laws.specs.ConstantForm.{IsConst}
+use Rattle.c_rules_laws.proofs.Spans.{no_range}
 use Rattle.c_rules_laws.proofs.SitesOfExpressions.{Span, Counted, value_counted}
 use Rattle.c_syntax.proofs.BackTokens.{ap_three}
 use Rattle.null_calls_laws.specs.FileScopes.{at_site}
@@ -30,15 +30,11 @@ use Rattle.c_rules.specs.Items.{Output, static_of, global_declared, within_globa
 
 -- ## Static initialisers
 
-pub no_span : (a n : ℕ) → range_with_len a n ≡ [] → n ≡ 0
-no_span a zero e = refl
-no_span a (suc n) e = absurd (cc)
-
 known_silent : (at : ℕ) (b : Before) (n : ℕ) (g : TypedExpression) → Gathers all_sites (Span b n) g → Holds (λ _. n ≡ 0) (cell_of true at g)
 known_silent at b n g h = by_constant g.constant refl
   where
     by_constant : (c : Constant) → g.constant ≡ c → Holds (λ _. n ≡ 0) (defined_cell at g c)
-    by_constant (known x) e = no_span b.sites n (h.1 (subst IsConst (sym e) tt))
+    by_constant (known x) e = no_range b.sites n (h.1 (subst IsConst (sym e) tt))
     by_constant c e = tt
 
 array_silent : (at : ℕ) (t : CType) (n : ℕ) (x : Expr) → Holds (λ _. calls x ≡ 0) (array_cells at t n (text_of x))
@@ -48,7 +44,7 @@ array_silent at t n x = tt
 scalar_silent : (env : Env) → env.context ≡ evaluated → (b : Before) (at : ℕ) (t : CType) (x : Expr) → Holds (λ _. calls x ≡ 0) (scalar_cell true at t (value env b x))
 scalar_silent env e b at t x =
     on_holds (Gathers all_sites (Span b (calls x))) (λ _. calls x ≡ 0) (on (value env b x) (as_if_assigned at t)) (cell_of true at)
-    (on_holds (Counted b (calls x) (strings x)) (Gathers all_sites (Span b (calls x))) (value env b x) (as_if_assigned at t) (value_counted x env e b) (λ g h. as_if_gathered all_sites at (Span b (calls x)) t g h.0)) (λ g h. known_silent at b (calls x) g h)
+    (on_holds (Counted 30000 b (calls x) (strings x)) (Gathers all_sites (Span b (calls x))) (value env b x) (as_if_assigned at t) (value_counted x env e b) (λ g h. as_if_gathered all_sites at (Span b (calls x)) t g h.0)) (λ g h. known_silent at b (calls x) g h)
 
 list_silent : (n : ℕ) (takes : Bool) (at most count : ℕ) (r : Checked (List TypedExpression)) → Holds (λ _. count ≤ most → n ≡ 0) r → Holds (λ _. n ≡ 0) (cells_of_list takes at most count r)
 list_silent n takes at most count r h = behind_demand (λ _. n ≡ 0) takes 14 at _ (λ _. on_holds (λ _. count ≤ most → n ≡ 0) (λ _. n ≡ 0) r _ h (λ gs k. demand_holds (λ _. n ≡ 0) (nat_le count most) 14 at gs (λ q. k (leb-true count most q))))

@@ -5,7 +5,7 @@ use Rattle.c_tree.specs.Tree.{Program}
 use Rattle.c_tree.specs.Program.{IsProgram}
 use Rattle.null_calls_laws.specs.MarkedCalls.{Called, marked_of, sites_of}
 use Rattle.flow_graph.proofs.SitesLemmas.{no_site}
-use Rattle.null_calls_laws.proofs.Writable.{FitsWhere}
+use Rattle.null_calls_laws.proofs.FineParts.{FitsWhere}
 
 fits : (o : Option Called) (s : ℕ) → s < 4294967296 → FitsWhere o s
 fits None s h = tt

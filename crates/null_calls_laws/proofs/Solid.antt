@@ -1,17 +1,17 @@
 -- Trees that have the same temporaries whether their value is wanted or not.
-use Rattle.std.proofs.Common.{◌≡◌, ℕ, ◌||◌, nat_eq, refl, sym, subst}
+use Rattle.std.proofs.Common.{◌≡◌, ℕ, nat_eq, refl, sym, subst}
 use Rattle.std.proofs.lemmas.Bool.Decides.{Decides-eqb}
 use Rattle.c_lexer.specs.declared.punctuator.TheConstants.{AMPERSAND, ASTERISK}
 use Rattle.c_tree.specs.Tree.{CType, void, pointer, array, struct, function, Program}
-use Rattle.c_rules.specs.Checked.{Checked, demand, on, both, met}
-use Rattle.c_rules.specs.Types.{is_function}
+use Rattle.c_rules.specs.Checked.{Checked, on, both}
 use Rattle.c_rules.specs.Scopes.{Env}
-use Rattle.c_rules.specs.TypedExpression.{Form, a_value, a_place, behind, TypedExpression, tree_of_form, tree_of, is_place}
-use Rattle.c_rules.specs.Conversions.{kind_of, few_parts, loaded, valued_as, valued}
-use Rattle.c_rules.specs.UnaryExpressions.{address_of_form, address_of_type, address, led_to, indirection, unary_of_value}
+use Rattle.c_rules.specs.TypedExpression.{Form, a_value, behind, TypedExpression, tree_of_form, tree_of}
+use Rattle.c_rules.specs.Conversions.{few_parts, loaded, valued_as, valued}
+use Rattle.c_rules.specs.UnaryExpressions.{address, led_to, indirection, unary_of_value}
 use Rattle.c_rules.specs.BinaryExpressions.{sum}
 use Rattle.c_rules.specs.Expressions.{value_at, unary_rule}
-use Rattle.c_rules_laws.proofs.Holding.{on_holds, if_holds}
+use Rattle.c_rules_laws.proofs.Holding.{on_holds, if_holds, holds_map}
+use Rattle.c_rules_laws.proofs.Operators.{IsAddress, of_place, of_leader, address_agrees}
 use Rattle.null_calls_laws.proofs.Leaves.{Holds, after_part, demand_holds}
 use Rattle.null_calls_laws.proofs.Given.{IsSolid, IsOwn, IsGiven, by_own, by_given, own_given, after_two, if_known, rest_own, sum_own}
 
@@ -63,17 +63,12 @@ module _ (p : Program) where
   led_firm at g (pointer void) = tt
   led_firm at g t = tt
 
-  address_form_firm : (at : ℕ) (g : TypedExpression) (f : Form) → FirmBehind f → Holds IsFirm (address_of_form at g f)
-  address_form_firm at g (a_value e) h = tt
-  address_form_firm at g (a_place e) h = demand_holds IsFirm (few_parts (pointer g.ctype)) 13 at _ (record { types = refl; tree = λ k. refl })
-  address_form_firm at g (behind e) h = h
-
-  address_type_firm : (at : ℕ) (g : TypedExpression) (t : CType) → LeadsFirmly g → Holds IsFirm (address_of_type at g t)
-  address_type_firm at g (array t n) h = tt
-  address_type_firm at g t h = address_form_firm at g g.form h
+  address_is_firm : (g h : TypedExpression) → IsAddress g h → LeadsFirmly g → IsFirm h
+  address_is_firm g h (of_place e q n) l = record { types = refl; tree = λ k. refl }
+  address_is_firm g h (of_leader e q n) l = subst FirmBehind q l
 
   address_firm : (at place : ℕ) (g : TypedExpression) → LeadsFirmly g → Holds IsFirm (address at place g)
-  address_firm at place g h = after_part IsFirm (demand (is_place g || is_function g.ctype) 4 place met) _ (λ _. address_type_firm at g g.ctype h)
+  address_firm at place g l = holds_map (IsAddress g) IsFirm (λ h a. address_is_firm g h a l) (address at place g) (address_agrees at at g place place).has
 
   pub unary_firm : (env : Env) (at place code : ℕ) (r : Checked TypedExpression) → (code ≡ AMPERSAND → Holds LeadsFirmly r) → Holds IsFirm (unary_rule env at place code r)
   unary_firm env at place code r h =
@@ -88,23 +83,19 @@ module _ (p : Program) where
   index_led at g t h = tt
 
   pub index_leads : (env : Env) (at : ℕ) (r s : Checked TypedExpression) → Holds LeadsFirmly (on (both r s (sum env at)) (indirection at))
-  index_leads env at r s = on_holds IsOwn LeadsFirmly (both r s (sum env at)) (indirection at) (after_two IsOwn r s (sum env at) (λ a b. sum_own env at a b (kind_of a.ctype) (kind_of b.ctype))) (λ g h. index_led at g g.ctype (own_solid g h))
+  index_leads env at r s = on_holds IsOwn LeadsFirmly (both r s (sum env at)) (indirection at) (after_two IsOwn r s (sum env at) (sum_own env at)) (λ g h. index_led at g g.ctype (own_solid g h))
 
   pub index_firm : (env : Env) (at : ℕ) (r s : Checked TypedExpression) → Holds IsFirm (on (both r s (sum env at)) (indirection at))
   index_firm env at r s = after_part IsFirm (both r s (sum env at)) (indirection at) (λ g. led_firm at g g.ctype)
 
   -- ## Operands of &
 
-  address_led : (at place : ℕ) (g : TypedExpression) → Holds LeadsFirmly (address at place g)
-  address_led at place g = after_part LeadsFirmly (demand (is_place g || is_function g.ctype) 4 place met) _ (λ _. by_type g.ctype)
-    where
-      by_form : (f : Form) → Holds LeadsFirmly (address_of_form at g f)
-      by_form (a_place e) = demand_holds LeadsFirmly (few_parts (pointer g.ctype)) 13 at _ tt
-      by_form f = tt
+  address_leads : (g h : TypedExpression) → IsAddress g h → LeadsFirmly h
+  address_leads g h (of_place e q n) = tt
+  address_leads g h a = tt
 
-      by_type : (t : CType) → Holds LeadsFirmly (address_of_type at g t)
-      by_type (array t n) = tt
-      by_type t = by_form g.form
+  address_led : (at place : ℕ) (g : TypedExpression) → Holds LeadsFirmly (address at place g)
+  address_led at place g = holds_map (IsAddress g) LeadsFirmly (address_leads g) (address at place g) (address_agrees at at g place place).has
 
   unary_value_led : (at code : ℕ) (g : TypedExpression) → (code ≡ ASTERISK → ⊥) → Holds LeadsFirmly (unary_of_value at code g)
   unary_value_led at code g n = if_known LeadsFirmly (nat_eq code ASTERISK) _ _ (λ e. absurd (n ((Decides-eqb code ASTERISK).0 e))) (given_led _ (own_given _ (rest_own at code g)))

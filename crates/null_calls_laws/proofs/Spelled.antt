@@ -1,8 +1,8 @@
 -- The declarations of temporaries: they have the grammar's forms, what they are written with are tokens, and their nodes stand at most 65
 -- deep in each other (C99 6.7.5, 5.2.4.1).
 use Rattle.std.proofs.Common.{◌≡◌, ◌⊎◌, inl, inr, ℕ, ◌+◌, ◌≤◌, max, Bool, true, false, List, [], ◌∷◌, refl, true≢false, sym, ◌∙◌, subst, arith}
-use Rattle.std.specs.Prelude.{nat_le, slice_index_or}
-use Rattle.std.proofs.lemmas.Bool.Decides.{nat_tests}
+use Rattle.std.specs.Prelude.{slice_index_or}
+use Rattle.std.proofs.lemmas.Bool.{leb-true}
 use Rattle.dm_base.specs.Name.{IsName}
 use Rattle.c_tree.specs.declared.value.IntType.TheVariants.{Char}
 use Rattle.c_tree.specs.Tree.{CType, void, integer, array, struct, CTypes, no_types, more_types}
@@ -25,9 +25,6 @@ use Rattle.null_calls_laws.specs.WrittenTypes.{Written, AllWritten}
 use Rattle.null_calls_laws.specs.Scopes.{AreWrittenTemporaries, AreOfSites}
 use Rattle.null_calls_laws.proofs.NamesAreIdentifiers.{designator_named, argument_named, result_named}
 use Rattle.null_calls_laws.proofs.TagsOfUnits.{AllNames, among_named}
-
-at_most : (a b : ℕ) → nat_le a b ≡ true → a ≤ b
-at_most a b h = grind (arith, nat_tests)
 
 -- ## No arrays
 
@@ -118,7 +115,7 @@ module _ (enums tags stood : List Name) (at : ℕ) where
 
   few : (t : CType) → is_scalar t ≡ true → Written enums tags stood t → parts t ≤ 64
   few (integer i) h w = omega arith
-  few (typed.pointer t) h w = at_most (parts (typed.pointer t)) most_parts w.1
+  few (typed.pointer t) h w = leb-true (parts (typed.pointer t)) most_parts w.1
   few t h w = absurd (true≢false (sym h))
 
   -- ## Declarations of temporaries

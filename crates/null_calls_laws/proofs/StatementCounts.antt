@@ -15,6 +15,8 @@ use Rattle.null_calls_laws.specs.MarkedCalls.{Sites}
 use Rattle.null_calls_laws.specs.InstrumentedExpressions.{expr, maybe}
 use Rattle.null_calls_laws.specs.InstrumentedStatements.{init, inits, maybe_init, parts, declaration, first, stmt, items_of_block, stmts, groups}
 use Rattle.null_calls_laws.specs.Counts.{AreNamed}
+use Rattle.null_calls_laws.specs.Heights.{BlocksStayLow}
+use Rattle.null_calls_laws.specs.Tags.{TagsStay}
 use Rattle.null_calls_laws.specs.CountedStatements.{InitNamed, InitsNamed, MaybeInitNamed, PartsNamed, DeclNamed, FirstNamed, MaybeNamed, StmtNamed, BlockNamed, StmtsNamed, GroupsNamed, StatementsCountAlike, BlocksCountAlike}
 use Rattle.null_calls_laws.proofs.Alike.{Alike, same, beside, behind, before, unlisted, deeper}
 use Rattle.null_calls_laws.proofs.ExpressionCounts.{expr_alike}
@@ -81,7 +83,7 @@ module _ (aside : Bool) (sites : Sites) where
     stmt_alike (return_from at m) b h = deeper (maybe_alike m b true h)
     stmt_alike s b h = same (names_of_stmt s) (tags_of_stmt aside s) (calls_of_stmt s) (height_of_stmt s)
 
-    pub block_alike : (is : BlockItems) (b : ℕ) → BlockNamed sites b is
+    block_alike : (is : BlockItems) (b : ℕ) → BlockNamed sites b is
         → Alike (names_of_block (items_of_block sites b is)) (names_of_block is) (tags_of_block aside (items_of_block sites b is)) (tags_of_block aside is) (calls_of_block (items_of_block sites b is)) (calls_of_block is) (height_of_block_items (items_of_block sites b is)) (height_of_block_items is)
     block_alike no_block_items b h = same [] [] 0 0
     block_alike (block_decl d is) b h = beside (decl_alike d b h.0) (block_alike is (b + calls_of_decl d) h.1)
@@ -102,3 +104,9 @@ statements_stay sites b s h = (let a = stmt_alike false sites s b h in record { 
 
 pub blocks_stay : BlocksCountAlike
 blocks_stay sites b is h = (let a = block_alike false sites is b h in record { names_same = a.listed; calls_most = a.calls_most })
+
+pub blocks_low : BlocksStayLow
+blocks_low sites b is h = (block_alike false sites is b h).low
+
+pub tags_stay : TagsStay
+tags_stay sites aside b is h = (block_alike aside sites is b h).tagged

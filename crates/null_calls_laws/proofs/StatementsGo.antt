@@ -1,5 +1,5 @@
 -- Statements of an instrumented unit go: the recursion on the syntax.
-use Rattle.std.proofs.Common.{◌≡◌, ℕ, ◌+◌, Bool, true, false, List, [], ◌∷◌, ◌++◌, length, append_assoc, append-nil, refl, ap, sym, subst, ◌∙◌, arith}
+use Rattle.std.proofs.Common.{◌≡◌, ℕ, ◌+◌, Bool, true, false, List, [], ◌++◌, length, append_assoc, refl, ap, sym, subst, ◌∙◌, arith}
 use Rattle.c_tree.specs.declared.value.IntType.{IntType}
 use Rattle.c_tree.specs.Tree.{CType, Program}
 use Rattle.c_tree.specs.Tree as typed
@@ -7,12 +7,11 @@ use Rattle.c_syntax.specs.Tree.{Expr, Maybe, absent, there, First}
 use Rattle.c_syntax.specs.Tree.{Stmt, block, empty, evaluate, only_if, if_else, while_loop, do_loop, for_loop, switch_on, break_off, continue_on, return_from}
 use Rattle.c_syntax.specs.Tree.{BlockItems, no_block_items, block_decl, block_stmt, Stmts, no_stmts, more_stmts, Groups, no_groups, more_groups}
 use Rattle.c_rules.specs.Checked.{Checked, fine, both, all_three, beside, gives}
-use Rattle.c_rules.specs.Names.{Name}
 use Rattle.c_rules.specs.Scopes.{Env, Binding, inside, Before}
 use Rattle.c_rules.specs.Counts.{calls, calls_of_maybe, string_cells, past, after, after_maybe}
 use Rattle.c_rules.specs.TypedExpression.{tree_of}
 use Rattle.c_rules.specs.Expressions.{value}
-use Rattle.c_rules.specs.Variables.{Next, past_name, past_names, names_of_first, names_of_stmt, names_of_stmts, calls_of_decl, calls_of_first, calls_of_stmt, calls_of_stmts}
+use Rattle.c_rules.specs.Variables.{Next, past_names, names_of_first, names_of_stmt, names_of_stmts, calls_of_decl, calls_of_first, calls_of_stmt, calls_of_stmts}
 use Rattle.c_rules.specs.Blocks.{behind_first, after_first, after_stmt, after_stmts, with_tree}
 use Rattle.c_rules.specs.Statements.{Around, in_loop, in_switch, condition_at, test_of, step_of, switched, label_type, labels_of, returned, stmt, items_of_block, stmts, groups_of_switch}
 use Rattle.null_calls_laws.specs.MarkedCalls.{Sites}
@@ -38,20 +37,19 @@ use Rattle.null_calls_laws.proofs.Reserved.{temporaries_stay}
 use Rattle.null_calls_laws.proofs.Scopes.{blocks_stand_beside}
 use Rattle.null_calls_laws.specs.DeclarationsBeside.{StatementTreeFollow, SameNumber, DeclGoes, FirstGoes}
 use Rattle.null_calls_laws.proofs.DeclarationsFollow.{declarations_go, firsts_go}
+use Rattle.null_calls_laws.proofs.InitialisersFollow.{near_past}
+use Rattle.c_rules_laws.proofs.RightDeclarations.{past_both}
+use Rattle.c_rules_laws.proofs.SitesOfExpressions.{cells_both}
 use Rattle.null_calls_laws.proofs.Numbers.{numbers_stay}
 use Rattle.null_calls_laws.specs.StatementsBeside.{after_block, after_groups, MaybeTabled, StmtTabled, BlockTabled, StmtsTabled, GroupsTabled, StatementTreeFollows, GroupsFollow, StatementsGo, BlocksGo}
 use Rattle.null_calls_laws.proofs.Nodes.{evaluate_follows, bare_follows, jump_follows, if_kept, head_follows, do_follows, switch_follows, one_follows, some_follow, group_follows, block_follows, else_follows, for_follows}
 
 -- ## What stands before
 
-strings_both : (xs ys : List (List ℕ)) → string_cells (xs ++ ys) ≡ string_cells xs + string_cells ys
-strings_both [] ys = omega arith
-strings_both (x ∷ xs) ys = (let r = strings_both xs ys in omega (arith, r))
-
 past_past : (b : Before) (m n : ℕ) (ws vs : List (List ℕ)) → past (past b m ws) n vs ≡ past b (m + n) (ws ++ vs)
 past_past b m n ws vs =
     let s : (b.sites + m) + n ≡ b.sites + (m + n) = omega arith in
-    let c : (b.cells + string_cells ws) + string_cells vs ≡ b.cells + string_cells (ws ++ vs) = (let r = strings_both ws vs in omega (arith, r)) in
+    let c : (b.cells + string_cells ws) + string_cells vs ≡ b.cells + string_cells (ws ++ vs) = (let r = cells_both ws vs in omega (arith, r)) in
     let l : (b.strings ++ ws) ++ vs ≡ b.strings ++ (ws ++ vs) = append_assoc b.strings ws vs in
     λ i. record { sites = s i; strings = l i; cells = c i }
 
@@ -59,19 +57,8 @@ past_past b m n ws vs =
 near_both : (b b' : Before) (m n m' n' : ℕ) (ws vs ws' vs' : List (List ℕ)) → Near (past (past b m ws) n vs) (past (past b' m' ws') n' vs') → Near (past b (m + n) (ws ++ vs)) (past b' (m' + n') (ws' ++ vs'))
 near_both b b' m n m' n' ws vs ws' vs' h = subst (λ x. Near x (past b' (m' + n') (ws' ++ vs'))) (past_past b m n ws vs) (subst (λ x. Near (past (past b m ws) n vs) x) (past_past b' m' n' ws' vs') h)
 
-past_none : (b : Before) → b ≡ past b 0 []
-past_none b =
-    let s : b.sites ≡ b.sites + 0 = omega arith in
-    let c : b.cells ≡ b.cells + 0 = omega arith in
-    let l : b.strings ≡ b.strings ++ [] = sym (append-nil b.strings) in
-    λ i. record { sites = s i; strings = l i; cells = c i }
-
 near_none : (b b' : Before) → Near b b' → Near (past b 0 []) (past b' 0 [])
-near_none b b' h = subst (λ x. Near x (past b' 0 [])) (past_none b) (subst (λ x. Near b x) (past_none b') h)
-
-names_past : (n : Next) (xs ys : List Name) → past_names n (xs ++ ys) ≡ past_names (past_names n xs) ys
-names_past n [] ys = refl
-names_past n (x ∷ xs) ys = names_past (past_name n x) xs ys
+near_none b b' h = near_past b b' 0 0 [] [] h (omega arith) refl
 
 stand_scopes : (p : Program) (names : List Binding) (e f : Env) → StandBeside p names e f → Alike e f
 stand_scopes p names e f (stand_beside env w plain alike stand same) = alike_of _ _ (scopes_beside env w plain alike)
@@ -150,7 +137,7 @@ module _ (p : Program) (sites : Sites) (names : List Binding) where
   stmts_numbers no_stmts b next next' n m = m
   stmts_numbers (more_stmts s ss) b next next' n m =
       let i = stmts_numbers ss (b + calls_of_stmt s) (past_names next (names_of_stmt s)) (past_names next' (names_of_stmt (with_null_calls.stmt sites b s))) n.1 (stmt_numbers b s next next' n.0 m) in
-      ap (λ (z : Next). z.plain) (names_past next' (names_of_stmt (with_null_calls.stmt sites b s)) _) ∙ (i ∙ sym (ap (λ (z : Next). z.plain) (names_past next (names_of_stmt s) _)))
+      ap (λ (z : Next). z.plain) (past_both (names_of_stmt (with_null_calls.stmt sites b s)) _ next') ∙ (i ∙ sym (ap (λ (z : Next). z.plain) (past_both (names_of_stmt s) _ next)))
 
   abbrev X : Before → Expr → Expr
   X b x = expr sites b.sites true x

@@ -1,5 +1,5 @@
 -- The temporaries of a body are new names, and mean the variables that their declarations declare.
-use Rattle.std.proofs.Common.{◌≡◌, ◌⊎◌, inl, inr, ℕ, suc, Bool, true, false, not, cond, List, [], ◌∷◌, ◌++◌, Some, None, refl, ap, sym, subst, ◌∙◌, true≢false}
+use Rattle.std.proofs.Common.{◌≡◌, ◌≢◌, ◌⊎◌, inl, inr, ℕ, suc, Bool, true, false, not, cond, List, [], ◌∷◌, ◌++◌, Some, None, refl, ap, sym, subst, ◌∙◌, true≢false}
 use Rattle.std.proofs.lemmas.Bool.{false_from_ne_true, true_from_ne_false}
 use Rattle.std.specs.Prelude.{is_none, bytes_eq}
 use Rattle.c_tree.specs.Tree.{Program}
@@ -19,7 +19,7 @@ use Rattle.null_calls_laws.specs.Standing.{StandBeside, stand_beside}
 use Rattle.null_calls_laws.proofs.Scopes.{unadded}
 use Rattle.null_calls_laws.specs.FileScopes.{HasNullCalls}
 use Rattle.null_calls_laws.specs.Functions.{HasFunctions}
-use Rattle.null_calls_laws.specs.Scopes.{AreWrittenTemporaries, AreOfSites, DiffersFrom, AllDiffer}
+use Rattle.null_calls_laws.specs.Scopes.{AreWrittenTemporaries, IsOfSite, AreOfSites, DiffersFrom, AllDiffer}
 use Rattle.null_calls_laws.proofs.Closed.{spelled}
 use Rattle.c_rules_laws.proofs.DistinctNames.{itself, among_right}
 use Rattle.null_calls_laws.proofs.FileNames.{other}
@@ -41,8 +41,7 @@ abbrev pub AllFree : List Temporary → Type 0
 AllFree xs = Each (λ (x : Temporary). IsFreeName x.name) xs
 
 pub all_free : (lo n : ℕ) (xs : List Temporary) → AreOfSites lo n xs → AllFree xs
-all_free lo n [] h = tt
-all_free lo n (x ∷ xs) h = (free_by x h.0.site h.0.argument h.0.named, all_free lo n xs h.1)
+all_free lo n = each_map (IsOfSite lo n) (λ (x : Temporary). IsFreeName x.name) (λ x s. free_by x s.site s.argument s.named)
 
 -- ## Scopes behind them
 
@@ -65,8 +64,7 @@ past_all y d k [] ns h = refl
 past_all y d k (x ∷ xs) ns h = past_all y d (suc k) xs (temporary_binding d k x ∷ ns) h.1 ∙ ap (λ t. cond t (Some (temporary_binding d k x)) (lookup ns y)) h.0
 
 others : (x : Temporary) (xs : List Temporary) → DiffersFrom x xs → OtherThan x.name xs
-others x [] h = tt
-others x (y ∷ ys) h = (other y.name x.name (λ e. h.0 (sym e)), others x ys h.1)
+others x = each_map (λ (y : Temporary). x.name ≢ y.name) (λ (y : Temporary). bytes_eq y.name x.name ≡ false) (λ y n. other y.name x.name (λ e. n (sym e)))
 
 -- they are found
 pub found_all : (d k : ℕ) (xs : List Temporary) (ns : List Binding) → AllDiffer xs → AreFound (names_behind d k xs ns) k xs

@@ -4,8 +4,7 @@ use Rattle.dm_base.specs.declared.mode.Mode.TheVariants.{Plain}
 use Rattle.c_lexer.specs.TokenSpelling.{SpellsTokens}
 use Rattle.c_lexer.specs.declared.token.Token.{Token}
 use Rattle.c_syntax.specs.Spelling.{SpellsUnit}
-use Rattle.c_syntax.specs.Tree.{Items, no_items, more_items}
-use Rattle.c_syntax_printing.specs.FineUnits.{AreFineItems, AreSomeItems}
+use Rattle.c_syntax.specs.Tree.{Items, more_items}
 use Rattle.c_syntax_printing.proofs.FineUnitLemmas.{fine_unit}
 use Rattle.c_rules.specs.Scopes.{nothing_before}
 use Rattle.c_rules.specs.Items.{after_items}
@@ -19,16 +18,12 @@ use Rattle.c_syntax_printing.proofs.WritableReadBack.{spelled_writable, writable
 use Rattle.c_syntax_printing.proofs.WritableTokens.{writable_are_units}
 use Rattle.null_calls_laws.proofs.Fine.{spelled_lexical}
 use Rattle.null_calls_laws.proofs.WholeUnits.{unit_program}
-use Rattle.null_calls_laws.proofs.SpelledCasts.{spelled_names}
+use Rattle.null_calls_laws.proofs.TagsOfUnits.{some_fine, spelled_names}
 use Rattle.null_calls_laws.proofs.TypedUnits.{typed_facts}
 use Rattle.null_calls_laws.specs.Texts.{InstrumentedUnitsAreUnits, InstrumentedTextsAreReadBack}
 use Rattle.null_calls_laws.proofs.NamesAreIdentifiers.{pre_named, post_named}
 use Rattle.null_calls_laws.proofs.Sites.{sites_fit}
 use Rattle.null_calls_laws.proofs.UnitForms.{AreGoodItems, null_good, more_good, good_items}
-
-some_fine : (u : Items) → AreSomeItems u → AreFineItems u
-some_fine no_items h = tt
-some_fine (more_items i is) h = h
 
 instrumented_good : (text : List ℕ) (tokens : List Token) (u : Items) (p : Program) → SpellsTokens text Plain tokens → SpellsUnit u tokens Plain → IsTyped u Plain p → AreGoodItems (instrumented_unit p u)
 instrumented_good text tokens u p spells reads typed =

@@ -1,22 +1,22 @@
 -- The tree of a value has the value's type, and a null pointer constant has an integer type, or is a void *.
-use Rattle.std.proofs.Common.{◌≡◌, ℕ, ◌+◌, true, ◌||◌, List, nat_eq, refl, sym, subst, ◌∙◌}
+use Rattle.std.proofs.Common.{◌≡◌, ℕ, ◌+◌, true, List, nat_eq, refl, sym, subst, ◌∙◌}
 use Rattle.c_lexer.specs.declared.punctuator.TheConstants.{AMPERSAND, ASTERISK}
 use Rattle.c_tree.specs.Tree.{CType, void, pointer, array, struct, function, type_of}
 use Rattle.c_tree.specs.Tree as typed
 use Rattle.c_tree.specs.Layout.{cells}
 use Rattle.c_syntax.specs.Tree.{Expr, comma, call, unary, index}
 use Rattle.c_rules.specs.Checked.{Checked, fine, demand, both, met}
-use Rattle.c_rules.specs.Types.{is_function}
 use Rattle.c_rules.specs.Scopes.{Env, layout_of, Before}
 use Rattle.c_rules.specs.Counts.{place_of, calls, after, after_designator}
-use Rattle.c_rules.specs.TypedExpression.{Form, a_value, a_place, behind, Constant, is_known_zero, TypedExpression, typed_value, tree_of_form, tree_of, is_place, is_null}
-use Rattle.c_rules.specs.Conversions.{kind_of, few_parts, loaded, valued_as, valued}
+use Rattle.c_rules.specs.TypedExpression.{Form, a_value, a_place, behind, Constant, is_known_zero, TypedExpression, typed_value, tree_of_form, tree_of, is_null}
+use Rattle.c_rules.specs.Conversions.{few_parts, loaded, valued_as, valued}
 use Rattle.c_rules.specs.PostfixExpressions.{Designator, direct, through, Callee, as_many_as, all_fit, call_of, called, site_of}
-use Rattle.c_rules.specs.UnaryExpressions.{address_of_form, address_of_type, address, led_to, indirection, unary_of_value}
+use Rattle.c_rules.specs.UnaryExpressions.{address, led_to, indirection, unary_of_value}
 use Rattle.c_rules.specs.BinaryExpressions.{sum}
 use Rattle.c_rules.specs.Assignments.{comma_of}
 use Rattle.c_rules.specs.Expressions.{value_at, unary_rule, callee, tree, trees, value}
 use Rattle.c_rules_laws.proofs.Holding.{held, on_holds, holds_map, if_holds}
+use Rattle.c_rules_laws.proofs.Operators.{IsAddress, of_place, of_leader, address_agrees}
 use Rattle.null_calls_laws.specs.NullTypes.{IsNullType, NullsHaveTheirTypes}
 use Rattle.null_calls_laws.proofs.Leaves.{Holds, after_part, demand_holds}
 use Rattle.null_calls_laws.proofs.Given.{IsOwn, IsGiven, by_own, by_given, own_given, after_two, after_three, no, decayed_no, rest_own, sum_own, tree_given}
@@ -70,18 +70,13 @@ led_sound at g (pointer void) q h = tt
 led_sound at g (pointer t) q h = (h.0 ∙ q, λ z. subst IsNullType q (h.1 z))
 led_sound at g t q h = tt
 
-address_form_sound : (at : ℕ) (g : TypedExpression) (f : Form) → FormSound g.ctype g.constant f → Holds IsSound (address_of_form at g f)
-address_form_sound at g (a_value e) h = tt
-address_form_sound at g (a_place e) h = demand_holds IsSound (few_parts (pointer g.ctype)) 13 at (typed_value (pointer g.ctype) (typed.address_of (pointer g.ctype) e) g.constant) (refl, λ z. absurd (h z))
-address_form_sound at g (behind e) h = (h.0, λ z. absurd (h.1 z))
-
-address_type_sound : (at : ℕ) (g : TypedExpression) (t : CType) → IsSound g → Holds IsSound (address_of_type at g t)
-address_type_sound at g (array t n) h = tt
-address_type_sound at g t h = address_form_sound at g g.form h
+address_sound : (g h : TypedExpression) → IsAddress g h → IsSound g → IsSound h
+address_sound g h (of_place e q n) l = (refl, λ z. absurd (subst (FormSound g.ctype g.constant) q l z))
+address_sound g h (of_leader e q n) l = (let k = subst (FormSound g.ctype g.constant) q l in (k.0, λ z. absurd (k.1 z)))
 
 unary_sound : (env : Env) (at place code : ℕ) (r : Checked TypedExpression) → Holds IsSound r → Holds IsSound (unary_rule env at place code r)
 unary_sound env at place code r h =
-    if_holds IsSound (nat_eq code AMPERSAND) _ _ (on_holds IsSound IsSound r (address at place) h (λ g l. after_part IsSound (demand (is_place g || is_function g.ctype) 4 place met) _ (λ _. address_type_sound at g g.ctype l)))
+    if_holds IsSound (nat_eq code AMPERSAND) _ _ (on_holds IsSound IsSound r (address at place) h (λ g l. holds_map (IsAddress g) IsSound (λ x a. address_sound g x a l) (address at place g) (address_agrees at at g place place).has))
     (on_holds ValueSound IsSound (value_at env place r) (unary_of_value at code) (value_at_sound env place r h) (λ g l. if_holds IsSound (nat_eq code ASTERISK) _ _ (led_sound at g g.ctype refl l) (given_sound _ (own_given _ (rest_own at code g)))))
 
 -- ## Calls
@@ -101,7 +96,7 @@ tree_sound (call at d es) env b = after_three IsSound (callee env at d (value_at
 tree_sound (unary at o e) env b = unary_sound env at (place_of e) o (tree env b e) (tree_sound e env b)
 tree_sound (index at e f) env b =
     on_holds IsOwn IsSound (both (value_at env (place_of e) (tree env b e)) (value_at env (place_of f) (tree env (after b e) f)) (sum env at)) (indirection at)
-    (after_two IsOwn (value_at env (place_of e) (tree env b e)) (value_at env (place_of f) (tree env (after b e) f)) (sum env at) (λ a c. sum_own env at a c (kind_of a.ctype) (kind_of c.ctype))) (λ g h. led_sound at g g.ctype refl (own_sound g h))
+    (after_two IsOwn (value_at env (place_of e) (tree env b e)) (value_at env (place_of f) (tree env (after b e) f)) (sum env at) (sum_own env at)) (λ g h. led_sound at g g.ctype refl (own_sound g h))
 tree_sound x env b = given_sound (tree env b x) (tree_given x tt env b)
 
 value_sound : (x : Expr) (env : Env) (b : Before) → Holds ValueSound (value env b x)

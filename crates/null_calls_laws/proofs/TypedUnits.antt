@@ -17,12 +17,12 @@ use Rattle.null_calls_laws.specs.Temporaries.{pre_name, post_name}
 use Rattle.null_calls_laws.specs.Instrumented as units
 use Rattle.null_calls_laws.specs.Instrumented.{instrumented_unit, calls_of_item}
 use Rattle.null_calls_laws.specs.IsWithNullCalls.{IsWithNullCalls}
-use Rattle.c_rules_laws.proofs.TypesOfTypedExpressions.{defined_at}
+use Rattle.c_rules_laws.proofs.MadeTypes.{defined_at}
 use Rattle.c_rules.specs.Scopes.{type_of_member}
 use Rattle.null_calls_laws.specs.Spelled.{AreAmong}
 use Rattle.null_calls_laws.specs.FileScopes.{FilesBeside, files_beside, at_site}
 use Rattle.c_rules_laws.specs.Lexical.{IsUnitLexical}
-use Rattle.c_rules_laws.proofs.Holding.{held, on_fine, demand_fine, Holds, both_hold, Any, anything, first_fine, after_part as behind_any}
+use Rattle.c_rules_laws.proofs.Holding.{held, on_fine, demand_fine, Holds, both_hold, Any, anything, first_fine, after_part as behind_any, fine_same}
 use Rattle.c_rules_laws.proofs.FileScopes.{IsFileRight, Follows, follows_self}
 use Rattle.c_rules_laws.proofs.FileItems.{items_step}
 use Rattle.c_rules_laws.proofs.UnitScopes.{IsTable}
@@ -33,21 +33,21 @@ use Rattle.null_calls_laws.proofs.Declared.{among_right}
 use Rattle.null_calls_laws.proofs.Tables.{body_in_table}
 use Rattle.null_calls_laws.specs.Functions.{HasFunctions, FunctionFacts, ItemGoes}
 use Rattle.null_calls_laws.specs.Units.{InstrumentedUnitsAreTyped, InstrumentedTextsRunMarked}
-use Rattle.null_calls_laws.proofs.FileWritten.{IsWrittenFile, form_whole}
+use Rattle.null_calls_laws.proofs.FileWritten.{IsWrittenFile}
+use Rattle.c_rules_laws.proofs.Callers.{NoFunctions, decl_none, form_whole}
 use Rattle.null_calls_laws.proofs.Aside.{items_aside}
-use Rattle.null_calls_laws.proofs.Facts.{UnitFacts, unit_facts, all_in, NoFunctions, decl_none}
+use Rattle.null_calls_laws.proofs.Facts.{UnitFacts, unit_facts, all_in}
 use Rattle.null_calls_laws.proofs.NamesOfUnits.{each_app, each_none, each_has, tags_go, names_same, AllPlain, functions_plain, none_reserved}
 use Rattle.null_calls_laws.proofs.Prototypes.{start, new_env, items_start, env_start, strings_start, start_files}
 use Rattle.c_rules_laws.proofs.Fine.{spelled_lexical}
 use Rattle.null_calls_laws.proofs.Worlds.{instrumented_run_marked}
-use Rattle.null_calls_laws.proofs.SpelledCasts.{spelled_names}
+use Rattle.null_calls_laws.proofs.TagsOfUnits.{spelled_names}
 use Rattle.null_calls_laws.specs.InstrumentedPrograms.{instrumented_function}
 use Rattle.null_calls_laws.specs.WithoutSites.{unsited_function}
 use Rattle.null_calls_laws.proofs.Nodes.{both_gives}
 use Rattle.std.proofs.lemmas.List.{map-append}
 use Rattle.null_calls_laws.specs.OtherItems.{IsOther}
 use Rattle.null_calls_laws.proofs.Items.{other_items_go}
-use Rattle.c_rules_laws.proofs.UnitShape.{output_same}
 use Rattle.null_calls_laws.proofs.FunctionItems.{function_item_goes}
 
 -- ## Items that define no function
@@ -96,7 +96,7 @@ pub record ItemsGo (p : Program) (e f : Env) (b : Before) (n : ℕ) (is js : Ite
 pub items_go : (p : Program) (tags : List Name) (is : Items) (e f : Env) → FilesBeside e f → HasFunctions p e.whole.functions → (b : Before) (n : ℕ) (out : Output) → UnitFacts p tags e b is → n ≤ 3 * b.sites → b.sites ≤ 10000 → items e b is ≡ fine out
     → ItemsGo p e f b n is (units.items (sites_of p) tags b.sites is) out
 items_go p tags no_items e f w g b n out facts few low h =
-    let same : no_output ≡ out = output_same no_output out h in
+    let same : no_output ≡ out = fine_same no_output out h in
     record {
       output = no_output;
       follows = refl;
@@ -117,7 +117,7 @@ items_go p tags (more_items i is) e f w g b n out facts few low h =
     let below : after.sites ≤ 10000 = subst (λ c. c ≤ 10000) (sym facts.1) (item_low p tags e b i facts.0 low) in
     let later : ItemsGo p inner f1 after goes.count is (units.items (sites_of p) tags after.sites is) k.1 = items_go p tags is inner f1 goes.files still after goes.count k.1 facts.2 goes.few below k.3 in
     let rest : ItemsGo p inner f1 after goes.count is js k.1 = subst (λ c. ItemsGo p inner f1 after goes.count is (units.items (sites_of p) tags c is) k.1) facts.1 later in
-    let same : with_output k.0 k.1 ≡ out = output_same (with_output k.0 k.1) out k.4 in
+    let same : with_output k.0 k.1 ≡ out = fine_same (with_output k.0 k.1) out k.4 in
     record {
       output = with_output goes.output rest.output;
       follows = both_gives (item f (at_site b n) j) (items f1 (after_item f (at_site b n) j) js) (λ p q. fine (with_output p q)) goes.output rest.output goes.follows (ap (λ c. items f1 c js) goes.after ∙ rest.follows);
@@ -133,7 +133,7 @@ items_go p tags (more_items i is) e f w g b n out facts few low h =
 -- ## Before all items
 
 before_written : (u : Items) → IsWrittenFile (tags_of u) [] (env_before Plain u)
-before_written u = record { plain = refl; tags_are = refl; has = record { names = λ x b e. absurd (no_binding x b e); members = λ s ms e. absurd (none_defined (length (tags_of u)) s (map type_of_member ms) (defined_at (env_before Plain u) (before_right (whole_of Plain u)).names_known.sound s ms e)) } }
+before_written u = record { plain = refl; tags_are = refl; has = record { names = λ x b e. absurd (no_binding x b e); members = λ s ms e. absurd (none_defined (length (tags_of u)) s (map type_of_member ms) (defined_at (env_before Plain u) s ms e)) } }
 
 -- ## Scopes beside each other
 
@@ -210,9 +210,6 @@ module _ (u : Items) (out : Output) (lexical : IsUnitLexical u) (names : UnitNam
 
   goes : ItemsGo (program_of Plain u out) (env_before Plain u) (start (whole_of Plain u)) nothing_before 0 u later out
   goes = items_go (program_of Plain u out) (tags_of u) u (env_before Plain u) (start (whole_of Plain u)) (start_files (whole_of Plain u) refl) has_functions nothing_before 0 out facts (omega arith) (omega arith) typed
-
-  abbrev new_start : Env
-  new_start = new_env (whole_of Plain u)
 
   env_is : env_before Instrumented new_unit ≡ new_env (whole_of Plain u)
   env_is = ap (λ w. empty_env w) whole_stays

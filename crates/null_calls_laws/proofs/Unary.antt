@@ -26,7 +26,7 @@ use Rattle.null_calls_laws.specs.WithoutSites.{unsited}
 use Rattle.c_rules_laws.specs.ConstantForm.{IsConst}
 use Rattle.c_rules_laws.proofs.Holding.{and_right}
 use Rattle.null_calls_laws.specs.Remade.{inner_of, with_inner, remade, IsRemade, Follows}
-use Rattle.null_calls_laws.proofs.Constants.{unary_const, integer_const, member_const}
+use Rattle.c_rules_laws.proofs.ConstantForms.{unary_const, integer_const, member_const}
 use Rattle.null_calls_laws.proofs.Operands.{operand, value_remade, same_remade, demand_follows, on_follows, if_follows, valued_follows, cast_operand, converted_operand, null_operand}
 
 module _ (p : Program) (k : ℕ) (ts : List CType) where

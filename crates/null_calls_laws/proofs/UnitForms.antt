@@ -17,14 +17,13 @@ use Rattle.null_calls_laws.specs.Instrumented as units
 use Rattle.null_calls_laws.specs.Instrumented.{calls_of_item, null_prototype}
 use Rattle.c_syntax_printing.specs.Writable.{IsWritableStmt, AreWritableBlockItems, IsWritableItem, AreWritableItems}
 use Rattle.dm_base.specs.Name.{IsName}
-use Rattle.null_calls_laws.proofs.StatementHeights.{blocks_low}
+use Rattle.null_calls_laws.proofs.StatementCounts.{blocks_low}
 use Rattle.null_calls_laws.specs.Functions.{FunctionFacts}
-use Rattle.null_calls_laws.proofs.FileWritten.{form_tags}
+use Rattle.c_rules_laws.proofs.Callers.{form_tags}
 use Rattle.null_calls_laws.proofs.Facts.{UnitFacts}
 use Rattle.null_calls_laws.proofs.TagsOfUnits.{AllNames, names_both, item_tags_named}
 use Rattle.null_calls_laws.proofs.Spelled.{declared_fine, declared_write, declared_low}
-use Rattle.null_calls_laws.proofs.FineParts.{block_fine}
-use Rattle.null_calls_laws.proofs.Writable.{FitsWhere, block_writes}
+use Rattle.null_calls_laws.proofs.FineParts.{FitsWhere, of_tokens, of_grammar, block_stays}
 
 -- ## Bodies
 
@@ -70,8 +69,8 @@ module _ (p : Program) (tags : List Name) (fit : (s : ℕ) → FitsWhere (sites_
       let rest = blocks_low (sites_of p) b.sites is facts.3.named in
       let own = body_fine body f.2 in
       record {
-        fine = (f.0, f.1, declared_fine e.enums tags stood at xs later t.written (block_fine (sites_of p) is b.sites own.0));
-        writes = (w.0, w.1, declared_write e.enums tags stood at names b.sites _ xs later t.written t.sites (block_writes (sites_of p) fit is b.sites (body_writes body w.2)));
+        fine = (f.0, f.1, declared_fine e.enums tags stood at xs later t.written (block_stays (sites_of p) fit of_grammar is b.sites own.0));
+        writes = (w.0, w.1, declared_write e.enums tags stood at names b.sites _ xs later t.written t.sites (block_stays (sites_of p) fit of_tokens is b.sites (body_writes body w.2)));
         low = function_low (height_of_declarator d) (height_of_stmt body) (height_of_block_items is) (height_of_block_items later) _ l own.1 rest low;
       }
   good_item i e b facts f w l names = record { fine = f; writes = w; low = omega (arith, l) }

@@ -24,7 +24,7 @@ use Rattle.null_calls_laws.specs.WithoutSites.{unsited, unsited_all, unsited_may
 
 -- ## What doesn't look at sites
 
-type_same : (e : Expr) → type_of (unsited e) ≡ type_of e
+pub type_same : (e : Expr) → type_of (unsited e) ≡ type_of e
 type_same (constant t v) = refl
 type_same e = refl
 

@@ -11,8 +11,9 @@
 -- None is for private contracts and proofs alone.
 -- Read in this order: AbstractCasts (casts that name no object, C99 6.7.6), Units (the law on whole units). Then, for
 -- the laws on parts, Spelled (types and their spelling, 6.7.2, 6.7.5), WrittenTypes (those whose tags stand before),
--- TemporaryNames, Declarations (of temporaries, 6.7), ClosedTypes (what a scope has; the rest of it is for proofs),
--- Scopes (in functions of a plain unit), Bodies (of functions), FileScopes (6.2.1, 6.9), Functions (6.9.1), OtherItems.
+-- TemporaryNames, Declarations (of temporaries, 6.7), ClosedTypes of c_rules_laws (what a scope has; the rest of it
+-- is for proofs), Scopes (in functions of a plain unit), Bodies (of functions), FileScopes (6.2.1, 6.9), Functions
+-- (6.9.1), OtherItems.
 -- For proofs alone: CallsIn.
 pub mod Instrumented
 pub mod InstrumentedExpressions
@@ -48,7 +49,6 @@ pub mod StatementsBeside
 pub mod AbstractCasts
 pub mod Bodies
 pub mod CallsIn
-pub mod ClosedTypes
 pub mod TemporaryDeclarations
 pub mod FileScopes
 pub mod Functions
@@ -67,6 +67,7 @@ pub mod Pieces
 pub use Rattle.c_meaning.specs.MarkedRuns
 pub use Rattle.c_meaning.specs.Monitors
 pub use Rattle.c_meaning.specs.NoFalseAlarm
+pub use Rattle.c_rules_laws.specs.ClosedTypes
 pub use Rattle.c_rules_laws.specs.Lexical
 pub use Rattle.c_rules_laws.specs.MadeTypes
 pub use Rattle.c_rules_laws.specs.PlaceLaws

@@ -10,7 +10,7 @@ use Rattle.c_rules.specs.Scopes.{Env, Binding, a_function, evaluated, lookup}
 use Rattle.c_rules.specs.PrimaryExpressions.{function_number}
 use Rattle.null_calls_laws.specs.Temporaries.{Temporary, designator_name, argument_name, result_name}
 use Rattle.null_calls_laws.specs.TemporaryNames.{limit}
-use Rattle.null_calls_laws.specs.ClosedTypes.{ScopeHas}
+use Rattle.c_rules_laws.specs.ClosedTypes.{ScopeHas}
 use Rattle.null_calls_laws.specs.WrittenTypes.{Written}
 
 pub record IsWrittenScope (p : Program) (enums tags stood : List Name) (env : Env) : Type 0 where

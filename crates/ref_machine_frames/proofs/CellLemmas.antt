@@ -1,7 +1,9 @@
 -- The cells of arrays, of members and of structs, by the numbers of cells of structs.
-use Rattle.std.proofs.Common.{◌≡◌, ◌⊎◌, inl, inr, ℕ, zero, suc, ◌+◌, ◌-◌, ◌*◌, ◌≤◌, List, [], ◌∷◌, ◌++◌, length, length-append, drop, drop-cons, get_or, Some, None, slice_get, ap, sym, subst, ◌∙◌, refl, ◌<◌, arith}
+use Rattle.std.proofs.Common.{◌≡◌, ◌⊎◌, inl, inr, ℕ, zero, suc, ◌+◌, ◌-◌, ◌*◌, ◌≤◌, List, [], ◌∷◌, ◌++◌, length, length-append, drop, drop-cons, get_or, Some, slice_get, ap, sym, subst, ◌∙◌, refl, ◌<◌, arith}
 use Rattle.std.specs.Prelude.{map}
-use Rattle.std.proofs.lemmas.List.{length-map, drop_all}
+use Rattle.std.proofs.lemmas.List.{length-map, drop_all, get_or_past}
+use Rattle.std.proofs.lemmas.Bool.{cases_lt}
+pub use Rattle.std.proofs.lemmas.Option.{slice_get_past as none_there}
 use Rattle.c_tree.specs.declared.tree.CType.{CType as TypeTree}
 use Rattle.c_tree.specs.declared.tree.StructMembers.{StructMembers}
 use Rattle.c_tree.specs.Tree.{CType, array}
@@ -83,28 +85,9 @@ struct_step structs counts next new i m count lt is many before here grown depth
     let at : count ≡ kept (length (layout S (suc depth) i)) = at_its_place S depth i (members_in m) count (found_at structs i m lt is) (here (layout S depth) h) in
     subst (CountedTo (layout S (suc depth))) (sym grown) (struct_counted (layout S (suc depth)) next count (before depth h) (at ∙ ap (λ k. kept (length (layout S (suc depth) k))) (sym many)))
 
-pub none_there : {A : Type 0} (xs : List A) (i : ℕ) → length xs ≤ i → slice_get xs i ≡ None
-none_there [] i le = refl
-none_there (x ∷ xs) zero le = absurd (omega (arith, le))
-none_there (x ∷ xs) (suc i) le = none_there xs i (omega (arith, le))
-
-past_all : (xs : List ℕ) (i : ℕ) → length xs ≤ i → get_or xs i 0 ≡ 0
-past_all [] i le = refl
-past_all (x ∷ xs) zero le = absurd (omega (arith, le))
-past_all (x ∷ xs) (suc i) le = past_all xs i (omega (arith, le))
-
-before_or_past : (s n : ℕ) → (s < n) ⊎ (n ≤ s)
-before_or_past s zero = inr (omega arith)
-before_or_past zero (suc n) = inl (omega arith)
-before_or_past (suc s) (suc n) = at (before_or_past s n)
-  where
-    at : (s < n) ⊎ (n ≤ s) → (suc s < suc n) ⊎ (suc n ≤ suc s)
-    at (inl h) = inl (omega (arith, h))
-    at (inr h) = inr (omega (arith, h))
-
 -- all structs have their numbers, and there are no others
 pub structs_done : (structs : List StructMembers) (next : List ℕ) (i depth : ℕ) → length next ≡ i → length structs ≤ i → i ≤ length structs → CountedTo (layout (map members_in structs) (suc depth)) next → AreCounted (layout (map members_in structs) (suc depth)) next
-structs_done structs next i depth many le ge h s = at (before_or_past s (length next))
+structs_done structs next i depth many le ge h s = at (cases_lt s (length next))
   where
     S : Structs
     S = map members_in structs
@@ -113,7 +96,7 @@ structs_done structs next i depth many le ge h s = at (before_or_past s (length 
     at (inl lt) = h s lt
     at (inr past) =
         let all : length S ≤ s = omega (arith, past, many, le, length-map structs members_in) in
-        past_all next s past ∙ ap (λ o. kept (length (flat_all_with (layout S depth) (or_none o)))) (sym (none_there S s all))
+        get_or_past next s 0 past ∙ ap (λ o. kept (length (flat_all_with (layout S depth) (or_none o)))) (sym (none_there S s all))
 
 -- where one level more changes nothing, none does
 settled : (structs : Structs) (counts : List ℕ) → ((depth : ℕ) → AreCounted (layout structs depth) counts → AreCounted (layout structs (suc depth)) counts) → (more depth all : ℕ) → all ≡ more + depth → AreCounted (layout structs depth) counts → AreCounted (layout structs all) counts

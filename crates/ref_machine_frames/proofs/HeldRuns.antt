@@ -1,9 +1,8 @@
 -- The run of a well-typed program in a machine is its run.
-use Rattle.std.proofs.Common.{◌≡◌, ℕ, zero, suc, ◌≤◌, nat_eq, if◌then◌else◌, Bool, true, false, List, [], ◌∷◌, length, All, Some, slice_get, sym, ap, ◌∙◌, subst, refl, arith}
+use Rattle.std.proofs.Common.{◌≡◌, ℕ, zero, suc, ◌≤◌, nat_eq, if◌then◌else◌, Bool, true, false, List, [], length, Some, slice_get, sym, ap, ◌∙◌, subst, refl, arith}
 use Rattle.std.specs.List.{AllZip}
 use Rattle.std.proofs.lemmas.Bool.{le-leb}
 use Rattle.std.proofs.lemmas.Slice.Zip.{AllZip-long}
-use Rattle.std.proofs.lemmas.List.Elements.{All-head, All-tail}
 use Rattle.dm_base.specs.declared.outcome.Outcome.TheVariants.{Undefined}
 use Rattle.sys_table.specs.declared.sys_result.SysResult.{SysResult}
 use Rattle.c_tree.specs.declared.value.Value.{Value}
@@ -19,7 +18,7 @@ use Rattle.c_meaning.specs.Runs as meaning
 use Rattle.c_meaning.specs.Runs.{no_marks, beginning, ending, entered}
 use Rattle.c_meaning.specs.StoreTyping.{HasKind, IsTypedState, Grows, TellsOfStatics, IsTypedFrame}
 use Rattle.c_meaning.specs.TypedResults.{IsExit, StandsRound, IsTypedWorld}
-use Rattle.c_meaning.proofs.Places.{grows_on}
+use Rattle.c_meaning.proofs.Places.{all_get, grows_on}
 use Rattle.c_meaning.proofs.Keeps.{Holds, stands_on, condition_ends, perhaps_ends, exec_ends}
 use Rattle.c_meaning.proofs.Standing.{body_stands}
 use Rattle.c_meaning.proofs.Worlds.{opens, body_typed, parts_typed, runs_begin_typed}
@@ -34,15 +33,10 @@ spend_same p o (suc n) st f g h k = k (record { memory = st.memory; entries = st
 module _ (p : Program) (n : ℕ) (typed : IsProgram p n) where
   few_parameters : (f : ℕ) (g : Function) (r : CType) (ts : CTypes) → slice_get p.functions f ≡ Some g → g.ctype ≡ function r ts → length (list_of ts) ≤ 16
   few_parameters f g r ts e d =
-      let is = at p.functions f typed.functions e in
+      let is = all_get (IsFunction p) p.functions f g typed.functions e in
       let types : function (is.gives) (is.takes) ≡ function r ts = sym is.type ∙ d in
       let takes : is.takes ≡ ts = cc (types) in
       subst (λ ts. length (list_of ts) ≤ 16) takes is.few_parameters
-    where
-      at : (fs : List Function) (f : ℕ) → All (IsFunction p) fs → slice_get fs f ≡ Some g → IsFunction p g
-      at [] f h e = absurd (cc)
-      at (h ∷ fs) zero k e = let same : h ≡ g = cc in subst (IsFunction p) same (All-head (IsFunction p) h fs k)
-      at (h ∷ fs) (suc f) k e = at fs f (All-tail (IsFunction p) h fs k) e
 
   module _ (v w : World) (goes : IsTypedWorld p w) (enters : EnterAlike p n typed v w) (agains : AgainAlike p n typed v w) where
     body_same : (is_main wanted : Bool) (f : ℕ) (g : Function) (r : CType) (ts : CTypes) (vs : List Value) (o : Objects) (st : State) → slice_get p.functions f ≡ Some g → g.ctype ≡ function r ts → TellsOfStatics p o → AllZip (HasKind p o) (list_of ts) vs → IsTypedState p o st → run_few p v is_main wanted (Some g) vs st ≡ meaning.run_body p w no_marks is_main wanted (Some g) vs st

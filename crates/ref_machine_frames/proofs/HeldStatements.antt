@@ -3,7 +3,7 @@ use Rattle.std.proofs.Common.{◌≡◌, ℕ, zero, suc, Bool, true, false, [], 
 use Rattle.c_tree.specs.declared.value.IntType.{IntType}
 use Rattle.c_tree.specs.declared.value.Value.{Value}
 use Rattle.c_tree.specs.Tree.{CType, Program, type_of, Maybe, absent, there, Inits, no_inits, more_inits}
-use Rattle.c_tree.specs.Tree.{Stmt, block, empty, evaluate, declare, if_else, while_loop, do_loop, for_loop, switch_on, break_off, continue_on, return_void, return_value, Stmts, no_stmts, more_stmts, Groups, no_groups, more_groups}
+use Rattle.c_tree.specs.Tree.{Stmt, block, evaluate, declare, if_else, while_loop, do_loop, for_loop, switch_on, return_value, Stmts, no_stmts, more_stmts, Groups, no_groups, more_groups}
 use Rattle.c_tree.specs.Layout.{flat, cells}
 use Rattle.c_tree.specs.Kinds.{Objects}
 use Rattle.c_tree.specs.Program.{IsProgram}
@@ -51,8 +51,7 @@ module _ (p : Program) (n : ℕ) (typed : IsProgram p n) where
     inits_same r t x no_inits o st s e h m k = refl
     inits_same r t x (more_inits cell a is) o st s e h m k =
         let b = flat_scalar p.structs t cell (type_of a) h.0 in
-        let first = left_part p (mentions a) (mentions_of_inits is) m in
-        on_value p n typed v w goes enters fr {B = Exit} true a o st _ _ s h.1 first k (value_same p n typed v w goes enters fr true a o st s h.1 first k) (λ u y st g i k. then_same p {A = Value} {B = Exit} _ u _ _ _ _ _ (cell_ends p n typed no_marks none_recorded w goes fr u x cell t (type_of a) y st (framed o u g s) e h.0 (scalar_kind p n typed no_marks none_recorded (type_of a) u y b i) k) refl (λ u' y st g' i k. inits_same r t x is u' st (framed o u' (grows_on o u u' g g') s) e h.2 (right_part p (mentions a) (mentions_of_inits is) m) k))
+        on_value p n typed v w goes enters fr {B = Exit} true a (value_same p n typed v w goes enters fr true a) o st _ _ s h.1 (left_part p (mentions a) (mentions_of_inits is) m) k (λ u y st g i k. then_same p {A = Value} {B = Exit} _ u _ _ _ _ _ (cell_ends p n typed no_marks none_recorded w goes fr u x cell t (type_of a) y st (framed o u g s) e h.0 (scalar_kind p n typed no_marks none_recorded (type_of a) u y b i) k) refl (λ u' y st g' i k. inits_same r t x is u' st (framed o u' (grows_on o u u' g g') s) e h.2 (right_part p (mentions a) (mentions_of_inits is) m) k))
 
     fresh_same : (x : ℕ) (t : CType) (o : Objects) (st : State) → IsTypedFrame p o fr → slice_get fr.types x ≡ Some t → fresh p.structs fr x (slice_get fr.types x) st ≡ meaning.fresh p.structs fr x (slice_get fr.types x) st
     fresh_same x t o st s e =
@@ -77,7 +76,7 @@ module _ (p : Program) (n : ℕ) (typed : IsProgram p n) where
 
         one_same : (a : Stmt) → IsFirst p fr.types a → StandsIn p (mentions_of_stmt a) → exec p v fr a st ≡ meaning.exec p w no_marks fr a st
         one_same (evaluate e) h m =
-            on_value p n typed v w goes enters fr {B = Exit} false e o st _ _ s h m k (value_same p n typed v w goes enters fr false e o st s h m k) (λ u x st g i k. refl)
+            on_value p n typed v w goes enters fr {B = Exit} false e (value_same p n typed v w goes enters fr false e) o st _ _ s h m k (λ u x st g i k. refl)
         one_same (declare x is) h m = declare_same r x is o st s h m k
         one_same _ h m = absurd h
 
@@ -85,12 +84,11 @@ module _ (p : Program) (n : ℕ) (typed : IsProgram p n) where
       pub exec_same : (r : CType) (breaks continues : Bool) (a : Stmt) (o : Objects) (st : State) → IsTypedFrame p o fr → IsStmt p fr.types r breaks continues a → StandsIn p (mentions_of_stmt a) → IsTypedState p o st → exec p v fr a st ≡ meaning.exec p w no_marks fr a st
       exec_same r breaks continues (block ss) o st s h m k = ap (leaving fr (declared_in ss)) (stmts_same r breaks continues ss o st s h m k)
       exec_same r breaks continues (evaluate e) o st s h m k =
-          on_value p n typed v w goes enters fr {B = Exit} false e o st _ _ s h m k (value_same p n typed v w goes enters fr false e o st s h m k) (λ u x st g i k. refl)
+          on_value p n typed v w goes enters fr {B = Exit} false e (value_same p n typed v w goes enters fr false e) o st _ _ s h m k (λ u x st g i k. refl)
       exec_same r breaks continues (declare x is) o st s h m k = declare_same r x is o st s h m k
       exec_same r breaks continues (if_else e a b) o st s h m k =
-          let first = left_part p (mentions e) (mentions_of_stmt a ++ mentions_of_stmt b) m in
           let rest = right_part p (mentions e) (mentions_of_stmt a ++ mentions_of_stmt b) m in
-          on_test p n typed v w goes enters fr {B = Exit} e o st _ _ s h.0 first k (value_same p n typed v w goes enters fr true e o st s h.0.1 first k) (λ u holds st g k. either_same {A = Result Exit} holds _ _ _ _ (exec_same r breaks continues a u st (framed o u g s) h.1 (left_part p (mentions_of_stmt a) (mentions_of_stmt b) rest) k) (exec_same r breaks continues b u st (framed o u g s) h.2 (right_part p (mentions_of_stmt a) (mentions_of_stmt b) rest) k))
+          on_test p n typed v w goes enters fr {B = Exit} e (value_same p n typed v w goes enters fr true e) o st _ _ s h.0 (left_part p (mentions e) (mentions_of_stmt a ++ mentions_of_stmt b) m) k (λ u holds st g k. either_same {A = Result Exit} holds _ _ _ _ (exec_same r breaks continues a u st (framed o u g s) h.1 (left_part p (mentions_of_stmt a) (mentions_of_stmt b) rest) k) (exec_same r breaks continues b u st (framed o u g s) h.2 (right_part p (mentions_of_stmt a) (mentions_of_stmt b) rest) k))
       exec_same r breaks continues (while_loop e a) o st s h m k =
           agains fr r (record { test = there e; body = a; step = absent }) o st s h.0 h.1 tt (record { test = left_part p (mentions e) (mentions_of_stmt a) m; body = right_part p (mentions e) (mentions_of_stmt a) m; step = stands_empty p }) k
       exec_same r breaks continues (do_loop a e) o st s h m k =
@@ -102,11 +100,10 @@ module _ (p : Program) (n : ℕ) (typed : IsProgram p n) where
           let rest = right_part p (mentions_of_maybe test) (mentions_of_maybe step ++ mentions_of_stmt a) later in
           ap (leaving fr (declared_in first)) (then_same p {A = Exit} {B = Exit} (IsExit p r false false) o _ _ _ _ _ (first_ends p n typed no_marks none_recorded w goes fr r first o st s h.0 early k) (first_same r first o st s h.0 early k) (λ u x st g i k. exit_same x st _ _ (agains fr r (record { test = test; body = a; step = step }) u st (framed o u g s) h.1 h.3 h.2 (record { test = left_part p (mentions_of_maybe test) (mentions_of_maybe step ++ mentions_of_stmt a) later; body = right_part p (mentions_of_maybe step) (mentions_of_stmt a) rest; step = left_part p (mentions_of_maybe step) (mentions_of_stmt a) rest }) k)))
       exec_same r breaks continues (switch_on e gs) o st s h m k =
-          let first = left_part p (mentions e) (mentions_of_groups gs) m in
           let rest = right_part p (mentions e) (mentions_of_groups gs) m in
-          on_value p n typed v w goes enters fr {B = Exit} true e o st _ _ s h.3 first k (value_same p n typed v w goes enters fr true e o st s h.3 first k) (λ u x st g i k. then_same p {A = Exit} {B = Exit} (IsExit p r true continues) u _ _ _ _ _ (groups_end p n typed no_marks none_recorded w goes fr r continues h.0 (selected x gs) gs u st (framed o u g s) h.5 rest k) (groups_same r continues h.0 (selected x gs) gs u st (framed o u g s) h.5 rest k) (λ u y st g i k. refl))
+          on_value p n typed v w goes enters fr {B = Exit} true e (value_same p n typed v w goes enters fr true e) o st _ _ s h.3 (left_part p (mentions e) (mentions_of_groups gs) m) k (λ u x st g i k. then_same p {A = Exit} {B = Exit} (IsExit p r true continues) u _ _ _ _ _ (groups_end p n typed no_marks none_recorded w goes fr r continues h.0 (selected x gs) gs u st (framed o u g s) h.5 rest k) (groups_same r continues h.0 (selected x gs) gs u st (framed o u g s) h.5 rest k) (λ u y st g i k. refl))
       exec_same r breaks continues (return_value e) o st s h m k =
-          on_value p n typed v w goes enters fr {B = Exit} true e o st _ _ s h.2 m k (value_same p n typed v w goes enters fr true e o st s h.2 m k) (λ u x st g i k. refl)
+          on_value p n typed v w goes enters fr {B = Exit} true e (value_same p n typed v w goes enters fr true e) o st _ _ s h.2 m k (λ u x st g i k. refl)
       exec_same r breaks continues a o st s h m k = refl
 
       stmts_same : (r : CType) (breaks continues : Bool) (ss : Stmts) (o : Objects) (st : State) → IsTypedFrame p o fr → AreStmts p fr.types r breaks continues ss → StandsIn p (mentions_of_stmts ss) → IsTypedState p o st → exec_all p v fr ss st ≡ meaning.exec_all p w no_marks fr ss st
@@ -129,4 +126,4 @@ module _ (p : Program) (n : ℕ) (typed : IsProgram p n) where
     pub perhaps_same : (e : Maybe) (o : Objects) (st : State) → IsTypedFrame p o fr → IsStep p fr.types e → StandsIn p (mentions_of_maybe e) → IsTypedState p o st → perhaps p v fr e st ≡ meaning.perhaps p w no_marks fr e st
     perhaps_same absent o st s h m k = refl
     perhaps_same (there e) o st s h m k =
-        on_value p n typed v w goes enters fr {B = Exit} false e o st _ _ s h m k (value_same p n typed v w goes enters fr false e o st s h m k) (λ u x st g i k. refl)
+        on_value p n typed v w goes enters fr {B = Exit} false e (value_same p n typed v w goes enters fr false e) o st _ _ s h m k (λ u x st g i k. refl)

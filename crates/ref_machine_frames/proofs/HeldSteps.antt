@@ -1,12 +1,12 @@
 -- What a machine can't hold doesn't come where values and memory are typed: the steps answer as they are meant.
-use Rattle.std.proofs.Common.{◌≡◌, ℕ, zero, suc, ◌<◌, ◌≤◌, nat_le, if◌then◌else◌, Bool, true, false, ◌&&◌, List, [], ◌∷◌, length, Some, slice_get, ap, ◌∙◌, subst, refl, arith}
-use Rattle.std.specs.List.{AllZip}
+use Rattle.std.proofs.Common.{◌≡◌, ℕ, ◌<◌, ◌≤◌, nat_le, if◌then◌else◌, Bool, true, false, List, [], length, Some, slice_get, ap, ◌∙◌, refl, arith}
+use Rattle.std.specs.List.{AllZip, list_all}
 use Rattle.std.proofs.lemmas.Bool.{lt-ltb, le-leb}
 use Rattle.std.proofs.lemmas.Int.{ints}
 use Rattle.std.proofs.lemmas.Slice.Zip.{AllZip-long}
 use Rattle.c_tree.specs.declared.value.ObjectName.{ObjectName}
 use Rattle.c_tree.specs.declared.value.Value.{Value}
-use Rattle.c_tree.specs.declared.value.Value.TheVariants.{Indeterminate, Int, Uint, Char, Uchar, Null, Func, At}
+use Rattle.c_tree.specs.declared.value.Value.TheVariants.{Int, Func, At}
 use Rattle.c_tree.specs.Tree.{CType, void, integer, pointer, array, struct, function, list_of, Program}
 use Rattle.c_tree.specs.Layout.{flat, cells}
 use Rattle.c_tree.specs.Functions.{int, sys_types}
@@ -22,10 +22,10 @@ use Rattle.c_meaning.specs.Pointers.{place, member, to_first, difference}
 use Rattle.c_meaning.specs.Results.{State, Stop}
 use Rattle.c_meaning.specs.SystemCalls as calls
 use Rattle.dm_base.specs.declared.outcome.Outcome.TheVariants.{Undefined}
-use Rattle.c_meaning.proofs.Members.{and_left, and_right}
+use Rattle.std.proofs.lemmas.List.Sums.{AllPass-from_list_all}
 use Rattle.c_meaning.specs.StoreTyping.{HasKind, IsPlaced}
 use Rattle.c_meaning.proofs.Differences.{has_cell, difference_right}
-use Rattle.c_meaning.proofs.Places.{element_object, lies_within}
+use Rattle.c_meaning.proofs.Places.{all_get, element_object, lies_within}
 use Rattle.c_meaning.proofs.Steps.{Right, behind_of_right, field_right}
 use Rattle.ref_machine_frames.specs.Words.{in_words, held}
 use Rattle.ref_machine_frames.specs.Cells.{few_cells}
@@ -102,22 +102,13 @@ abbrev is_short : CType → Bool
 is_short (function r ts) = nat_le (length (list_of ts)) 3
 is_short _ = false
 
-abbrev are_short : List CType → Bool
-are_short [] = true
-are_short (t ∷ ts) = is_short t && are_short ts
-
-sys_short : are_short sys_types ≡ true
+sys_short : list_all is_short sys_types ≡ true
 unfolding sys_types
 sys_short = refl
-
-short_at : (xs : List CType) (x : ℕ) (t : CType) → are_short xs ≡ true → slice_get xs x ≡ Some t → is_short t ≡ true
-short_at [] x t h e = absurd (cc)
-short_at (y ∷ xs) zero t h e = let same : y ≡ t = cc in subst (λ t. is_short t ≡ true) same (and_left (is_short y) (are_short xs) h)
-short_at (y ∷ xs) (suc x) t h e = short_at xs x t (and_right (is_short y) (are_short xs) h) e
 
 -- a system call has at most three arguments
 pub system_call_same : (p : Program) (o : Objects) (x : ℕ) (r : CType) (ts : _) (vs : List Value) (st : State) → slice_get sys_types x ≡ Some (function r ts) → AllZip (HasKind p o) (list_of ts) vs → system_call x vs st ≡ calls.system_call x vs st
 system_call_same p o x r ts vs st e z =
-    let short : nat_le (length (list_of ts)) 3 ≡ true = short_at sys_types x (function r ts) sys_short e in
+    let short : nat_le (length (list_of ts)) 3 ≡ true = all_get (λ t. is_short t ≡ true) sys_types x (function r ts) (AllPass-from_list_all is_short sys_types sys_short) e in
     let many : length vs ≡ length (list_of ts) = AllZip-long (HasKind p o) (list_of ts) vs z in
     ap (λ b. if b then calls.system_call x vs st else Stop (Undefined 13) []) (ap (λ k. nat_le k 3) many ∙ short)

@@ -1,38 +1,17 @@
 -- Parts that follow one another, and what was pushed last.
-use Rattle.std.proofs.Common.{◌≡◌, List, [], ◌∷◌, ◌++◌, sym, ap, ◌∙◌, refl, append_assoc, append-nil}
+use Rattle.std.proofs.Common.{◌≡◌, List, [], ◌∷◌, ◌++◌, sym, ap, ◌∙◌, refl}
 use Rattle.std.proofs.lemmas.List.{reverse-append}
-use Rattle.dm_base.specs.declared.event.Event.{Event}
 use Rattle.c_tree.specs.declared.value.Value.{Value}
 use Rattle.c_tree.specs.Tree.{Program}
 use Rattle.c_meaning.specs.Meaning.{Frame as Place, World}
 use Rattle.c_meaning.specs.Results.{State, Result, Go, Stop, after, then_do, Exit}
+pub use Rattle.c_meaning.proofs.Following.{after_none, then_after, then_assoc, then_nothing}
 use Rattle.ref_machine_frames.specs.declared.frames.ValueFrame.{ValueFrame}
 use Rattle.ref_machine_frames.specs.declared.frames.StatementFrame.{StatementFrame}
 use Rattle.ref_machine_frames.specs.declared.frames.ExitFrame.{ExitFrame}
 use Rattle.ref_machine_frames.specs.declared.frames.Frame.{Frame}
 use Rattle.ref_machine_frames.specs.declared.frames.Frame.TheVariants as frames
 use Rattle.ref_machine_frames.specs.Frames.{stack, with_value, in_statement, with_exit, after_value, after_exit}
-
-pub after_none : {A : Type 0} (r : Result A) → after [] r ≡ r
-after_none (Go a st w) = refl
-after_none (Stop o w) = refl
-
-pub after_after : {A : Type 0} (w u : List Event) (r : Result A) → after (w ++ u) r ≡ after w (after u r)
-after_after w u (Go a st z) = ap (λ u. Go a st u) (append_assoc w u z)
-after_after w u (Stop o z) = ap (λ u. Stop o u) (append_assoc w u z)
-
--- what gives its value and no event adds nothing
-pub then_nothing : {A : Type 0} (r : Result A) → then_do r (λ a st. Go a st []) ≡ r
-then_nothing (Go a st w) = ap (λ u. Go a st u) (append-nil w)
-then_nothing (Stop o w) = refl
-
-pub then_after : {A B : Type 0} (w : List Event) (r : Result A) (f : A → State → Result B) → then_do (after w r) f ≡ after w (then_do r f)
-then_after w (Go a st u) f = after_after w u (f a st)
-then_after w (Stop o u) f = refl
-
-pub then_assoc : {A B C : Type 0} (r : Result A) (f : A → State → Result B) (g : B → State → Result C) → then_do (then_do r f) g ≡ then_do r (λ a st. then_do (f a st) g)
-then_assoc (Go a st w) f g = then_after w (f a st) g
-then_assoc (Stop o w) f g = refl
 
 pub then_same : {A B : Type 0} (r : Result A) (f g : A → State → Result B) → ((a : A) (st : State) → f a st ≡ g a st) → then_do r f ≡ then_do r g
 then_same (Go a st w) f g h = ap (λ r. after w r) (h a st)

@@ -18,13 +18,9 @@ pub returns-in_err-one-clause-judged : goal.returns-in_err-one-clause-judged
 returns-in_err-one-clause-judged c =
     raised statement_trees_of (items_of_block (env_of c.args.env.now) (record { breaks = false; continues = false; returns = ctype_of c.args.returns.now }) (before_of c.args.before.now) (next_of c.args.next) (block_stmt (stmt_of c.args.s.now) no_block_items)) c.from_residual.result c.in_err-one.field-0.0 c.from_residual.ensures (subst (λ r. Names c.in_err-one.field-0.0 (faults r)) (sym (alone_only (env_of c.args.env.now) (record { breaks = false; continues = false; returns = ctype_of c.args.returns.now }) (before_of c.args.before.now) (next_of c.args.next) (stmt_of c.args.s.now))) (names_on c.in_err-one.field-0.0 (stmt (env_of c.args.env.now) (record { breaks = false; continues = false; returns = ctype_of c.args.returns.now }) (before_of c.args.before.now) (next_of c.args.next) (stmt_of c.args.s.now)) (λ p. fine (alone p)) c.in_err-one.ensures.judged))
 
-pub returns-clause-judged : goal.returns-clause-judged
-returns-clause-judged c =
-    found_as statement_trees_of c.all_found.result _ _ (alone_only (env_of c.args.env.now) (record { breaks = false; continues = false; returns = ctype_of c.args.returns.now }) (before_of c.args.before.now) (next_of c.args.next) (stmt_of c.args.s.now) ∙ ap (λ r. gives r alone) c.in_ok-one.ensures.judged) (c.all_found.ensures _ c.alone.ensures)
-
-pub returns-clause-counted : goal.returns-clause-counted
-returns-clause-counted c =
-    on_ok c.all_found.result _ (c.in_ok-one.ensures.counted ∙ after_alone (env_of c.args.env.now) (before_of c.args.before.now) (next_of c.args.next) (stmt_of c.args.s.now))
-
-pub returns-clause-kept : goal.returns-clause-kept
-returns-clause-kept c = on_ok c.all_found.result _ c.in_ok-one.ensures.kept
+pub returns : goal.returns
+returns c = record {
+  judged = found_as statement_trees_of c.all_found.result _ _ (alone_only (env_of c.args.env.now) (record { breaks = false; continues = false; returns = ctype_of c.args.returns.now }) (before_of c.args.before.now) (next_of c.args.next) (stmt_of c.args.s.now) ∙ ap (λ r. gives r alone) c.in_ok-one.ensures.judged) (c.all_found.ensures _ c.alone.ensures);
+  counted = on_ok c.all_found.result _ (c.in_ok-one.ensures.counted ∙ after_alone (env_of c.args.env.now) (before_of c.args.before.now) (next_of c.args.next) (stmt_of c.args.s.now));
+  kept = on_ok c.all_found.result _ c.in_ok-one.ensures.kept;
+}

@@ -14,14 +14,11 @@ returns-in_err-given-clause-judged c =
     let given = value (env_of c.args.env.now) (before_of c.args.before.now) (expr_of c.args.e.now) in
     fails_on tree_seen c.from_residual.result c.in_err-given.field-0.0 (condition_at c.args.at given) given (condition c.args.at) c.from_residual.ensures refl c.in_err-given.ensures.judged
 
-pub returns-clause-judged : goal.returns-clause-judged
-returns-clause-judged c =
-    let given = value (env_of c.args.env.now) (before_of c.args.before.now) (expr_of c.args.e.now) in
-    let g = typed_expression_of c.in_ok-given.given in
-    on_ended tree_seen c.condition.result (condition_at c.args.at given) given given (condition c.args.at) g (condition c.args.at g) refl refl c.in_ok-given.ensures.judged refl c.condition.ensures
-
-pub returns-clause-counted : goal.returns-clause-counted
-returns-clause-counted c = on_ok c.condition.result _ c.in_ok-given.ensures.counted
-
-pub returns-clause-kept : goal.returns-clause-kept
-returns-clause-kept c = on_ok c.condition.result _ c.in_ok-given.ensures.kept
+pub returns : goal.returns
+returns c = record {
+  judged = let given = value (env_of c.args.env.now) (before_of c.args.before.now) (expr_of c.args.e.now) in
+      let g = typed_expression_of c.in_ok-given.given in
+      on_ended tree_seen c.condition.result (condition_at c.args.at given) given given (condition c.args.at) g (condition c.args.at g) refl refl c.in_ok-given.ensures.judged refl c.condition.ensures;
+  counted = on_ok c.condition.result _ c.in_ok-given.ensures.counted;
+  kept = on_ok c.condition.result _ c.in_ok-given.ensures.kept;
+}

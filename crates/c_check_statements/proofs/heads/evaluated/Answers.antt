@@ -17,12 +17,9 @@ returns-in_err-tree-clause-judged c =
     let given = value (env_of c.args.env.now) (before_of c.args.before.now) (expr_of c.args.e.now) in
     raised statement_tree_of (gives given (λ g. bare (evaluate (tree_of g)))) c.from_residual.result c.in_err-tree.field-0.0 c.from_residual.ensures (then_fails c.in_err-tree.field-0.0 given tree_of (λ g. bare (evaluate (tree_of g))) c.in_err-tree.ensures.judged)
 
-pub returns-clause-judged : goal.returns-clause-judged
-returns-clause-judged c =
-    found_as statement_tree_of c.found.result _ _ (then_given (value (env_of c.args.env.now) (before_of c.args.before.now) (expr_of c.args.e.now)) tree_of (λ t. bare (evaluate t)) (tree_seen c.in_ok-tree.tree) c.in_ok-tree.ensures.judged) (c.found.ensures _ c.bare.ensures)
-
-pub returns-clause-counted : goal.returns-clause-counted
-returns-clause-counted c = on_ok c.found.result _ c.in_ok-tree.ensures.counted
-
-pub returns-clause-kept : goal.returns-clause-kept
-returns-clause-kept c = on_ok c.found.result _ c.in_ok-tree.ensures.kept
+pub returns : goal.returns
+returns c = record {
+  judged = found_as statement_tree_of c.found.result _ _ (then_given (value (env_of c.args.env.now) (before_of c.args.before.now) (expr_of c.args.e.now)) tree_of (λ t. bare (evaluate t)) (tree_seen c.in_ok-tree.tree) c.in_ok-tree.ensures.judged) (c.found.ensures _ c.bare.ensures);
+  counted = on_ok c.found.result _ c.in_ok-tree.ensures.counted;
+  kept = on_ok c.found.result _ c.in_ok-tree.ensures.kept;
+}

@@ -16,12 +16,9 @@ returns-in_err-one-clause-judged c =
     let given = value (env_of c.args.env.now) (before_of c.args.before.now) (expr_of c.args.e.now) in
     raised statement_trees_of (gives given (λ g. alone (bare (evaluate (tree_of g))))) c.from_residual.result c.in_err-one.field-0.0 c.from_residual.ensures (then_fails c.in_err-one.field-0.0 given (λ g. bare (evaluate (tree_of g))) (λ g. alone (bare (evaluate (tree_of g)))) c.in_err-one.ensures.judged)
 
-pub returns-clause-judged : goal.returns-clause-judged
-returns-clause-judged c =
-    found_as statement_trees_of c.all_found.result _ _ (then_given (value (env_of c.args.env.now) (before_of c.args.before.now) (expr_of c.args.e.now)) (λ g. bare (evaluate (tree_of g))) alone (statement_tree_of c.in_ok-one.one) c.in_ok-one.ensures.judged) (c.all_found.ensures _ c.alone.ensures)
-
-pub returns-clause-counted : goal.returns-clause-counted
-returns-clause-counted c = on_ok c.all_found.result _ c.in_ok-one.ensures.counted
-
-pub returns-clause-kept : goal.returns-clause-kept
-returns-clause-kept c = on_ok c.all_found.result _ c.in_ok-one.ensures.kept
+pub returns : goal.returns
+returns c = record {
+  judged = found_as statement_trees_of c.all_found.result _ _ (then_given (value (env_of c.args.env.now) (before_of c.args.before.now) (expr_of c.args.e.now)) (λ g. bare (evaluate (tree_of g))) alone (statement_tree_of c.in_ok-one.one) c.in_ok-one.ensures.judged) (c.all_found.ensures _ c.alone.ensures);
+  counted = on_ok c.all_found.result _ c.in_ok-one.ensures.counted;
+  kept = on_ok c.all_found.result _ c.in_ok-one.ensures.kept;
+}

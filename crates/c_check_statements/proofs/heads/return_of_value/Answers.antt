@@ -27,16 +27,13 @@ returns-in_err-given-clause-judged c =
     fails_on statement_tree_of c.from_residual.result c.in_err-given.field-0.0 (gives (returned (env_of c.args.env.now) (before_of c.args.before.now) c.args.at t (there (expr_of c.args.e.now))) bare) given (converted c.args.at t) c.from_residual.ensures
     (given_twice given (as_if_assigned c.args.at t) (λ a. return_value (tree_of a)) bare) c.in_err-given.ensures.judged
 
-pub returns-clause-judged : goal.returns-clause-judged
-returns-clause-judged c =
-    let given = value (env_of c.args.env.now) (before_of c.args.before.now) (expr_of c.args.e.now) in
-    let t = ctype_of c.args.returns.now in
-    let g = typed_expression_of c.in_ok-given.given in
-    on_ended statement_tree_of c.returned_value.result (gives (returned (env_of c.args.env.now) (before_of c.args.before.now) c.args.at t (there (expr_of c.args.e.now))) bare) given given (converted c.args.at t) g (converted c.args.at t g)
-    (given_twice given (as_if_assigned c.args.at t) (λ a. return_value (tree_of a)) bare) refl c.in_ok-given.ensures.judged refl c.returned_value.ensures
-
-pub returns-clause-counted : goal.returns-clause-counted
-returns-clause-counted c = on_ok c.returned_value.result _ c.in_ok-given.ensures.counted
-
-pub returns-clause-kept : goal.returns-clause-kept
-returns-clause-kept c = on_ok c.returned_value.result _ c.in_ok-given.ensures.kept
+pub returns : goal.returns
+returns c = record {
+  judged = let given = value (env_of c.args.env.now) (before_of c.args.before.now) (expr_of c.args.e.now) in
+      let t = ctype_of c.args.returns.now in
+      let g = typed_expression_of c.in_ok-given.given in
+      on_ended statement_tree_of c.returned_value.result (gives (returned (env_of c.args.env.now) (before_of c.args.before.now) c.args.at t (there (expr_of c.args.e.now))) bare) given given (converted c.args.at t) g (converted c.args.at t g)
+      (given_twice given (as_if_assigned c.args.at t) (λ a. return_value (tree_of a)) bare) refl c.in_ok-given.ensures.judged refl c.returned_value.ensures;
+  counted = on_ok c.returned_value.result _ c.in_ok-given.ensures.counted;
+  kept = on_ok c.returned_value.result _ c.in_ok-given.ensures.kept;
+}

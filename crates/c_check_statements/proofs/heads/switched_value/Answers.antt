@@ -13,14 +13,11 @@ returns-in_err-given-clause-judged c =
     let given = value (env_of c.args.env.now) (before_of c.args.before.now) (expr_of c.args.e.now) in
     fails_on typed_expression_of c.from_residual.result c.in_err-given.field-0.0 (switched c.args.at given) given (λ g. switched_kind c.args.at g (kind_of g.ctype)) c.from_residual.ensures refl c.in_err-given.ensures.judged
 
-pub returns-clause-judged : goal.returns-clause-judged
-returns-clause-judged c =
-    let given = value (env_of c.args.env.now) (before_of c.args.before.now) (expr_of c.args.e.now) in
-    let g = typed_expression_of c.in_ok-given.given in
-    on_ended typed_expression_of c.switched.result (switched c.args.at given) given given (λ x. switched_kind c.args.at x (kind_of x.ctype)) g (switched_kind c.args.at g (kind_of g.ctype)) refl refl c.in_ok-given.ensures.judged refl c.switched.ensures
-
-pub returns-clause-counted : goal.returns-clause-counted
-returns-clause-counted c = on_ok c.switched.result _ c.in_ok-given.ensures.counted
-
-pub returns-clause-kept : goal.returns-clause-kept
-returns-clause-kept c = on_ok c.switched.result _ c.in_ok-given.ensures.kept
+pub returns : goal.returns
+returns c = record {
+  judged = let given = value (env_of c.args.env.now) (before_of c.args.before.now) (expr_of c.args.e.now) in
+      let g = typed_expression_of c.in_ok-given.given in
+      on_ended typed_expression_of c.switched.result (switched c.args.at given) given given (λ x. switched_kind c.args.at x (kind_of x.ctype)) g (switched_kind c.args.at g (kind_of g.ctype)) refl refl c.in_ok-given.ensures.judged refl c.switched.ensures;
+  counted = on_ok c.switched.result _ c.in_ok-given.ensures.counted;
+  kept = on_ok c.switched.result _ c.in_ok-given.ensures.kept;
+}

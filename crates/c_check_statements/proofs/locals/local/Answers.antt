@@ -44,39 +44,32 @@ returns-in_err-object-clause-judged c =
     let r = object_declared env c.args.at (spec_of c.args.spec.now) (declarator_of c.args.d.now) x m in
     raised statement_tree_of (local env b next x m r) c.from_residual-in_err-object.result c.in_err-object.field-0.0 c.from_residual-in_err-object.ensures (object_fails c.in_err-object.field-0.0 env b next x m r c.in_err-object.ensures.judged)
 
-pub returns-clause-judged : goal.returns-clause-judged
-returns-clause-judged c =
-    let env = env_of c.args.env.now in
-    let x = ident_of c.args.x.now in
-    let m = maybe_init_of c.args.m.now in
-    let b = before_of c.args.before.now in
-    let next = next_of c.args.next in
-    let o = object_seen c.in_ok-object.object in
-    let r = object_declared env c.args.at (spec_of c.args.spec.now) (declarator_of c.args.d.now) x m in
-    let k = c.number-number.result in
-    subst (AgreesWith statement_tree_of c.local_of.result) ((λ i. local_as (env_of (c.in_ok-object.ensures.kept i)) b k x m o) ∙ local_is env next x k o r met c.in_ok-new_name.ensures c.in_ok-object.ensures.judged (c.number-number.ensures ∙ ap (number_in next) c.as_slice.ensures) b m) c.local_of.ensures.judged
-
-pub returns-clause-counted : goal.returns-clause-counted
-returns-clause-counted c =
-    let env = env_of c.args.env.now in
-    let x = ident_of c.args.x.now in
-    let m = maybe_init_of c.args.m.now in
-    let b = before_of c.args.before.now in
-    let o = object_seen c.in_ok-object.object in
-    ok_as c.local_of.result _ _ _ c.local_of.ensures.counted
-    ((λ i. past b (calls_of_maybe_init m) (held_by (env_of (c.in_ok-object.ensures.kept i)) o.whole m)) ∙ ap (λ r. past b (calls_of_maybe_init m) (held_by_object env m r)) (sym c.in_ok-object.ensures.judged))
-
-pub returns-clause-meant : goal.returns-clause-meant
-returns-clause-meant c =
-    let env = env_of c.args.env.now in
-    let x = ident_of c.args.x.now in
-    let m = maybe_init_of c.args.m.now in
-    let next = next_of c.args.next in
-    let o = object_seen c.in_ok-object.object in
-    let r = object_declared env c.args.at (spec_of c.args.spec.now) (declarator_of c.args.d.now) x m in
-    let k = c.number-number.result in
-    ok_as c.local_of.result _ _ _ c.local_of.ensures.meant
-    ((λ i. with_name (env_of (c.in_ok-object.ensures.kept i)) x.name (a_local k o.whole o.whole)) ∙ behind_is env next x k o r met c.in_ok-new_name.ensures c.in_ok-object.ensures.judged (c.number-number.ensures ∙ ap (number_in next) c.as_slice.ensures))
-
-pub returns-clause-kept : goal.returns-clause-kept
-returns-clause-kept c = subst (λ (e : Environment). OnOk c.local_of.result (Declares e c.local_of.new.env)) c.in_ok-object.ensures.kept c.local_of.ensures.kept
+pub returns : goal.returns
+returns c = record {
+  judged = let env = env_of c.args.env.now in
+      let x = ident_of c.args.x.now in
+      let m = maybe_init_of c.args.m.now in
+      let b = before_of c.args.before.now in
+      let next = next_of c.args.next in
+      let o = object_seen c.in_ok-object.object in
+      let r = object_declared env c.args.at (spec_of c.args.spec.now) (declarator_of c.args.d.now) x m in
+      let k = c.number-number.result in
+      subst (AgreesWith statement_tree_of c.local_of.result) ((λ i. local_as (env_of (c.in_ok-object.ensures.kept i)) b k x m o) ∙ local_is env next x k o r met c.in_ok-new_name.ensures c.in_ok-object.ensures.judged (c.number-number.ensures ∙ ap (number_in next) c.as_slice.ensures) b m) c.local_of.ensures.judged;
+  counted = let env = env_of c.args.env.now in
+      let x = ident_of c.args.x.now in
+      let m = maybe_init_of c.args.m.now in
+      let b = before_of c.args.before.now in
+      let o = object_seen c.in_ok-object.object in
+      ok_as c.local_of.result _ _ _ c.local_of.ensures.counted
+      ((λ i. past b (calls_of_maybe_init m) (held_by (env_of (c.in_ok-object.ensures.kept i)) o.whole m)) ∙ ap (λ r. past b (calls_of_maybe_init m) (held_by_object env m r)) (sym c.in_ok-object.ensures.judged));
+  meant = let env = env_of c.args.env.now in
+      let x = ident_of c.args.x.now in
+      let m = maybe_init_of c.args.m.now in
+      let next = next_of c.args.next in
+      let o = object_seen c.in_ok-object.object in
+      let r = object_declared env c.args.at (spec_of c.args.spec.now) (declarator_of c.args.d.now) x m in
+      let k = c.number-number.result in
+      ok_as c.local_of.result _ _ _ c.local_of.ensures.meant
+      ((λ i. with_name (env_of (c.in_ok-object.ensures.kept i)) x.name (a_local k o.whole o.whole)) ∙ behind_is env next x k o r met c.in_ok-new_name.ensures c.in_ok-object.ensures.judged (c.number-number.ensures ∙ ap (number_in next) c.as_slice.ensures));
+  kept = subst (λ (e : Environment). OnOk c.local_of.result (Declares e c.local_of.new.env)) c.in_ok-object.ensures.kept c.local_of.ensures.kept;
+}

@@ -21,20 +21,14 @@ laid_variable-requires c = record {
       c.have_cells_of_members.ensures c.in_ok-cells.ensures.judged c.requires.few;
 }
 
-pub returns-clause-judged : goal.returns-clause-judged
-returns-clause-judged c =
-    let whole = (object_seen c.args.o).whole in
-    found_as statement_tree_of c.found.result _ _
-    (ap (λ r. gives r (laid_variable (ident_of c.args.x.now).name c.args.number whole)) c.in_ok-cells.ensures.judged ∙ ap (λ n. fine (laid_variable n c.args.number whole (cells_of c.in_ok-cells.cells))) (sym c.as_slice-name.ensures))
-    (c.found.ensures _ c.laid_variable.ensures)
-
-pub returns-clause-counted : goal.returns-clause-counted
-returns-clause-counted c = on_ok c.found.result _ c.in_ok-cells.ensures.counted
-
-pub returns-clause-meant : goal.returns-clause-meant
-returns-clause-meant c =
-    let whole = (object_seen c.args.o).whole in
-    on_ok c.found.result _ (c.in_ok-declare_variable.ensures.meant ∙ (λ i. with_name (env_of (c.in_ok-cells.ensures.kept i)) (c.as_slice-name.ensures i) (a_local c.args.number whole whole)))
-
-pub returns-clause-kept : goal.returns-clause-kept
-returns-clause-kept c = on_ok c.found.result _ (subst (λ (e : Environment). Declares e c.declare_variable.new.env) c.in_ok-cells.ensures.kept c.in_ok-declare_variable.ensures.kept)
+pub returns : goal.returns
+returns c = record {
+  judged = let whole = (object_seen c.args.o).whole in
+      found_as statement_tree_of c.found.result _ _
+      (ap (λ r. gives r (laid_variable (ident_of c.args.x.now).name c.args.number whole)) c.in_ok-cells.ensures.judged ∙ ap (λ n. fine (laid_variable n c.args.number whole (cells_of c.in_ok-cells.cells))) (sym c.as_slice-name.ensures))
+      (c.found.ensures _ c.laid_variable.ensures);
+  counted = on_ok c.found.result _ c.in_ok-cells.ensures.counted;
+  meant = let whole = (object_seen c.args.o).whole in
+      on_ok c.found.result _ (c.in_ok-declare_variable.ensures.meant ∙ (λ i. with_name (env_of (c.in_ok-cells.ensures.kept i)) (c.as_slice-name.ensures i) (a_local c.args.number whole whole)));
+  kept = on_ok c.found.result _ (subst (λ (e : Environment). Declares e c.declare_variable.new.env) c.in_ok-cells.ensures.kept c.in_ok-declare_variable.ensures.kept);
+}

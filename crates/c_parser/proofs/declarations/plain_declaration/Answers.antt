@@ -1,7 +1,7 @@
 use Rattle.std.proofs.Common.{arith}
 use Rattle.c_parser.proofs.DeclLemmas.{plain_decl}
 use Rattle.c_parser.proofs.StmtStops.{raised}
-use Rattle.c_parser.proofs.DeclStops.{spec_fails, first_declarator_fails, parts_tail_fails}
+use Rattle.c_parser.proofs.DeclStops.{first_declarator_fails, parts_tail_fails}
 use Rattle.c_syntax_printing.specs.Phrases.{APlainDecl, ADeclarator}
 use Rattle.c_syntax_printing.specs.Declarations.{PartsTail}
 use Rattle.c_parser_phrases.specs.Refusing.{bound_of}
@@ -10,9 +10,11 @@ use Rattle.c_syntax.specs.View.{declarator_of}
 use Rattle.c_syntax.specs.Grammar.{HasName}
 use Rattle.c_syntax_printing.specs.Opens.{DeepDecl, DeepDeclarator}
 use Rattle.c_parser.specs.Nesting.{OpensAs, OpensParts}
-use Rattle.c_parser.proofs.ItemGoesOn.{first_declarator_goes_on, parts_go_on}
+use Rattle.c_parser.proofs.ItemGoesOn.{first_declarator_goes_on}
 use Rattle.c_parser.proofs.Passing.{passed, passed_deep, passed_flat}
 use Rattle.c_parser.proofs.declarations.plain_declaration.Goals as goal
+use Rattle.c_syntax_printing.proofs.DeclForms.{spec_fails}
+use Rattle.c_syntax_printing.proofs.PartOpens.{decl_opens}
 
 pub returns-clause-reads : goal.returns-clause-reads
 returns-clause-reads c = plain_decl c.place-at.ensures c.in_ok-spec.ensures.parses (c.in_ok-parts.ensures.reads _ c.in_ok-first.ensures.parses)
@@ -44,4 +46,4 @@ pub returns-in_err-parts-clause-nests : goal.returns-in_err-parts-clause-nests
 returns-in_err-parts-clause-nests c =
     passed APlainDecl PartsTail (OpensAs DeepDecl) (OpensParts c.args.room (declarator_of c.in_ok-first.first)) c.args.room c.args.room c.from_residual-in_err-parts.result c.in_err-parts.field-0.0 c.from_residual-in_err-parts.ensures
     (λ r f. parts_tail_fails (bound_of c.args.room) c.in_ok-spec.ensures.parses c.in_ok-first.ensures.parses f)
-    (λ at q d. parts_go_on c.in_ok-spec.ensures.parses (d _ c.in_ok-first.ensures.parses)) c.in_err-parts.ensures.nests
+    (λ at q d. decl_opens c.in_ok-spec.ensures.parses.reads (d _ c.in_ok-first.ensures.parses)) c.in_err-parts.ensures.nests

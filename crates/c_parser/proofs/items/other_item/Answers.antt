@@ -6,15 +6,17 @@ use Rattle.c_syntax_printing.specs.Items.{AnOther}
 use Rattle.c_parser_phrases.specs.Refusing.{bound_of}
 use Rattle.c_parser_phrases.proofs.Known.{not_there}
 use Rattle.c_parser.proofs.StmtStops.{raised, raised_flat, raised_inner}
-use Rattle.c_parser.proofs.ItemStops.{spec_of_item_fails, declarator_of_item_fails, body_of_item_fails, parts_of_item_fail}
+use Rattle.c_parser.proofs.ItemStops.{declarator_of_item_fails, body_of_item_fails, parts_of_item_fail}
 use Rattle.c_syntax.specs.View.{declarator_of}
 use Rattle.c_syntax.specs.Grammar.{HasName}
 use Rattle.c_syntax_printing.specs.Opens.{DeepItem, DeepDeclarator}
 use Rattle.c_syntax_printing.specs.Phrases.{inner}
 use Rattle.c_parser.specs.Nesting.{OpensAs, OpensInBlock, OpensParts}
-use Rattle.c_parser.proofs.ItemGoesOn.{item_declarator_goes_on, item_parts_go_on, body_then}
+use Rattle.c_parser.proofs.ItemGoesOn.{item_declarator_goes_on, body_then}
 use Rattle.c_parser.proofs.Passing.{passed, passed_deep, passed_flat}
 use Rattle.c_parser.proofs.items.other_item.Goals as goal
+use Rattle.c_syntax_printing.proofs.Combine.{fails_first}
+use Rattle.c_syntax_printing.proofs.UnitOpens.{item_parts_open}
 
 pub returns-then-is_at-clause-reads : goal.returns-then-is_at-clause-reads
 returns-then-is_at-clause-reads c = is_definition c.place-at.ensures c.storage-storage.ensures.reads c.in_ok-spec.ensures.parses c.in_ok-declarator.ensures.parses (block_of c.into_inner.ensures c.in_ok-body.ensures.reads)
@@ -29,7 +31,7 @@ pub returns-clause-shorter : goal.returns-clause-shorter
 returns-clause-shorter c = omega (arith, storage_no_longer c.storage-storage.ensures.reads, c.in_ok-spec.ensures.shorter, c.in_ok-declarator.ensures.shorter, c.in_ok-parts.ensures.shorter)
 
 pub returns-in_err-spec-clause-stops : goal.returns-in_err-spec-clause-stops
-returns-in_err-spec-clause-stops c = raised_flat AnOther (bound_of c.args.room) c.from_residual.result c.in_err-spec.field-0.0 c.from_residual.ensures (λ x r f. c.storage-storage.ensures.leads x r (spec_of_item_fails x f)) c.in_err-spec.ensures.stops
+returns-in_err-spec-clause-stops c = raised_flat AnOther (bound_of c.args.room) c.from_residual.result c.in_err-spec.field-0.0 c.from_residual.ensures (λ x r f. c.storage-storage.ensures.leads x r (fails_first f)) c.in_err-spec.ensures.stops
 
 pub returns-in_err-declarator-clause-stops : goal.returns-in_err-declarator-clause-stops
 returns-in_err-declarator-clause-stops c = raised AnOther ADeclarator (bound_of c.args.room) _ c.from_residual-in_err-declarator.result c.in_err-declarator.field-0.0 c.from_residual-in_err-declarator.ensures (λ x r f. c.storage-storage.ensures.leads x r (declarator_of_item_fails x c.in_ok-spec.ensures.parses f)) c.in_err-declarator.ensures.stops
@@ -60,4 +62,4 @@ pub returns-in_err-parts-clause-nests : goal.returns-in_err-parts-clause-nests
 returns-in_err-parts-clause-nests c =
     passed AnOther PartsTail (OpensAs DeepItem) (OpensParts c.args.room (declarator_of c.in_ok-declarator.declarator)) c.args.room c.args.room c.from_residual-in_err-parts.result c.in_err-parts.field-0.0 c.from_residual-in_err-parts.ensures
     (λ r f. c.storage-storage.ensures.leads (bound_of c.args.room) r (parts_of_item_fail (bound_of c.args.room) c.in_ok-spec.ensures.parses c.in_ok-declarator.ensures.parses (not_there c.is_at.result c.if-is_at.false c.is_at.ensures.stands) f))
-    (λ at q d. item_parts_go_on c.storage-storage.ensures.reads c.in_ok-spec.ensures.parses (d _ c.in_ok-declarator.ensures.parses)) c.in_err-parts.ensures.nests
+    (λ at q d. item_parts_open c.storage-storage.ensures.reads c.in_ok-spec.ensures.parses.reads (d _ c.in_ok-declarator.ensures.parses)) c.in_err-parts.ensures.nests

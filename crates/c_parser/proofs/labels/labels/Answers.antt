@@ -2,13 +2,14 @@ use Rattle.std.proofs.Common.{arith}
 use Rattle.c_parser.specs.Lists.{ends}
 use Rattle.c_parser.proofs.ListLemmas.{goes_first, goes_more, goes_end, rest_of}
 use Rattle.c_parser.proofs.StmtStops.{raised}
-use Rattle.c_parser.proofs.LoopStops.{label_next, next_label_fails}
+use Rattle.c_parser.proofs.LoopStops.{label_next}
 use Rattle.c_syntax_printing.specs.Phrases.{SomeLabels}
 use Rattle.c_parser_phrases.specs.Refusing.{bound_of}
 use Rattle.c_syntax_printing.specs.Deep.{DeepLabels}
 use Rattle.c_parser.specs.Nesting.{OpensAs}
 use Rattle.c_parser.proofs.Passing.{passed}
 use Rattle.c_parser.proofs.labels.labels.Goals as goal
+use Rattle.c_syntax_printing.proofs.PartFails.{more_labels_fail}
 
 pub next-init : goal.next-init
 next-init c = record {
@@ -21,7 +22,7 @@ next-init c = record {
 pub next-preserved : goal.next-preserved
 next-preserved c = record {
   goes = goes_more _ _ _ c.in_ok-push-2.ensures.items c.next.invariant.goes (λ more k s. rest_of (c.in_ok-next.ensures.reads.before more k s));
-  leads = λ x r f. c.next.invariant.leads x r (next_label_fails x (label_next _ (c.next-test.ensures.0 (cc))) (c.in_ok-next.ensures.leads x r f));
+  leads = λ x r f. c.next.invariant.leads x r (more_labels_fail (label_next _ (c.next-test.ensures.0 (cc))) (c.in_ok-next.ensures.leads x r f));
   shorter = omega (arith, c.in_ok-next.ensures.shorter, c.next.invariant.shorter);
   opens = λ at n q d. c.next.invariant.opens at n q (c.in_ok-next.ensures.opens at n q d);
 }
@@ -35,7 +36,7 @@ returns-in_err-first-clause-stops c = raised SomeLabels SomeLabels (bound_of c.a
 pub returns-in_err-next-clause-stops : goal.returns-in_err-next-clause-stops
 returns-in_err-next-clause-stops c =
     raised SomeLabels SomeLabels (bound_of c.args.room) _ c.from_residual-in_err-next.result c.in_err-next.field-0.0 c.from_residual-in_err-next.ensures
-    (λ x r f. c.next.invariant.leads x r (next_label_fails x (label_next _ (c.next-test.ensures.0 (cc))) f)) c.in_err-next.ensures.stops
+    (λ x r f. c.next.invariant.leads x r (more_labels_fail (label_next _ (c.next-test.ensures.0 (cc))) f)) c.in_err-next.ensures.stops
 
 pub returns-in_err-first-clause-nests : goal.returns-in_err-first-clause-nests
 returns-in_err-first-clause-nests c =
@@ -46,5 +47,5 @@ returns-in_err-first-clause-nests c =
 pub returns-in_err-next-clause-nests : goal.returns-in_err-next-clause-nests
 returns-in_err-next-clause-nests c =
     passed SomeLabels SomeLabels (OpensAs DeepLabels) (OpensAs DeepLabels) c.args.room c.args.room c.from_residual-in_err-next.result c.in_err-next.field-0.0 c.from_residual-in_err-next.ensures
-    (λ r f. c.next.invariant.leads (bound_of c.args.room) r (next_label_fails (bound_of c.args.room) (label_next _ (c.next-test.ensures.0 (cc))) f))
+    (λ r f. c.next.invariant.leads (bound_of c.args.room) r (more_labels_fail (label_next _ (c.next-test.ensures.0 (cc))) f))
     (λ at q d. c.next.invariant.opens at _ q d) c.in_err-next.ensures.nests

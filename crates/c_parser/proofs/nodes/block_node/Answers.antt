@@ -1,6 +1,6 @@
 use Rattle.std.proofs.Common.{subst}
 use Rattle.c_parser.specs.Making.{Makes}
-use Rattle.c_parser.proofs.Rows.{block_is}
+use Rattle.c_syntax.proofs.NodeRows.{block_is}
 use Rattle.c_parser.proofs.nodes.block_node.Goals as goal
 
 pub returns : goal.returns

@@ -1,6 +1,6 @@
 use Rattle.std.proofs.Common.{subst}
 use Rattle.c_parser.specs.Making.{Makes}
-use Rattle.c_parser.proofs.Rows.{switch_is}
+use Rattle.c_syntax.proofs.NodeRows.{switch_is}
 use Rattle.c_parser.proofs.nodes.switch_node.Goals as goal
 
 pub returns : goal.returns

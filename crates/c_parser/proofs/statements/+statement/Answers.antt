@@ -8,10 +8,10 @@ use Rattle.c_parser.proofs.StmtLemmas.{when_read, word_read, block_stmt, block_m
 use Rattle.c_syntax_printing.proofs.StmtCases.{stmt_head}
 use Rattle.c_parser_phrases.proofs.Known.{not_there}
 use Rattle.c_syntax_printing.specs.Phrases.{any}
-use Rattle.c_syntax_printing.proofs.Combine.{fails_at}
-use Rattle.c_parser.proofs.StmtStops.{raised, raised_within, only_memory, stops_in, stops_inner, made_stops, added_stops, ends_at, no_room_left, stops_deep}
-use Rattle.c_parser.proofs.StmtStops.{if_head, if_yes, if_no, while_head, while_body, do_body, do_word, do_head, do_end, for_head, for_body, switch_head, switch_brace, switch_groups}
-use Rattle.c_parser.proofs.LoopStops.{item_fails, item_leads, item_from, stmt_item, statement_fails, block_fails, if_fails, while_fails, do_fails, for_fails, switch_fails, group_labels_fail, group_body_fails, group_leads, group_goes, group_ends, labels_from, first_statement_fails, first_statement_leads, deep_compound}
+use Rattle.c_syntax_printing.proofs.Combine.{fails_at, fails_first}
+use Rattle.c_parser.proofs.StmtStops.{raised, raised_within, only_memory, stops_in, stops_inner, made_stops, added_stops, ends_at, no_room_left, stops_deep, in_condition, after_condition}
+use Rattle.c_parser.proofs.StmtStops.{if_yes, if_no, do_word, do_head, do_end, for_head, for_body, switch_brace, switch_groups}
+use Rattle.c_parser.proofs.LoopStops.{item_fails, item_leads, item_from, stmt_item, statement_fails, block_fails, if_fails, while_fails, do_fails, for_fails, switch_fails, group_labels_fail, group_body_fails, group_leads, group_goes, group_ends, labels_from, first_statement_leads, deep_compound}
 use Rattle.c_syntax_printing.specs.Phrases.{AStmt, ABlockItem, SomeLabels, InBlock, InSwitch, IfTail, WhileTail, DoTail, ForTail, SwitchTail}
 use Rattle.c_syntax_printing.specs.Groups.{InGroup}
 use Rattle.c_parser.specs.Refusing.{ACondition, AHead}
@@ -22,9 +22,11 @@ use Rattle.c_syntax_printing.specs.Phrases.{inner}
 use Rattle.c_syntax_printing.proofs.StmtOpens.{item_stmt_opens}
 use Rattle.c_syntax_printing.specs.Deep.{DeepLabels, DeepStmts, DeepGroups}
 use Rattle.c_parser.specs.Nesting.{OpensAs, OpensAfter, OpensInside, OpensInBlock}
-use Rattle.c_parser.proofs.StmtGoesOn.{opens_at, after_word, if_test, if_body, if_else, while_test, while_body as while_opens, do_body as do_opens, do_test, for_body as for_opens, switch_test, switch_groups as groups_open, labels_go_on, body_goes_on, group_then, stmt_first, stmts_then, stmt_then}
+use Rattle.c_parser.proofs.StmtGoesOn.{opens_at, after_word, if_test, if_body, if_else, while_test, while_body as while_opens, do_body as do_opens, do_test, for_body as for_opens, switch_test, switch_groups as groups_open, labels_go_on, body_goes_on, group_then, stmts_then, stmt_then}
 use Rattle.c_parser.proofs.Passing.{block_then, compound_nests, memory_wants, passed, passed_within, passes_as, passes_in, made_passes, added_passes}
 use Rattle.c_parser.proofs.statements.+statement.Goals as goal
+use Rattle.c_syntax_printing.proofs.GroupForms.{stmt_fails}
+use Rattle.c_syntax_printing.proofs.BodyOpens.{first_stmt_opens}
 
 pub compound-returns-in-If-clause-reads : goal.compound-returns-in-If-clause-reads
 compound-returns-in-If-clause-reads t c = word_read c.if_statement.result _ _ (record { some = c.requires.room; nodes = c.in_node-inside.ensures.nodes; pairs = c.in_node-inside.ensures.pairs }) (begins_as c.args.form form.If c.args.cursor.now.rest.now c.in-If.is c.requires.begins) c.skip.ensures.skips c.place-at.ensures c.if_statement.ensures.reads
@@ -175,7 +177,7 @@ pub block_item-returns-clause-stops : goal.block_item-returns-clause-stops
 block_item-returns-clause-stops t c = added_stops ABlockItem (bound_of c.args.room) _ _ _ _ _ c.add_block_statement.result c.add_block_statement.ensures
 
 pub if_statement-returns-in_err-test-clause-stops : goal.if_statement-returns-in_err-test-clause-stops
-if_statement-returns-in_err-test-clause-stops t c = raised IfTail ACondition (bound_of c.args.room) _ c.from_residual.result c.in_err-test.field-0.0 c.from_residual.ensures (λ x r f. if_head x f) c.in_err-test.ensures.stops
+if_statement-returns-in_err-test-clause-stops t c = raised IfTail ACondition (bound_of c.args.room) _ c.from_residual.result c.in_err-test.field-0.0 c.from_residual.ensures (λ x r f. in_condition x f) c.in_err-test.ensures.stops
 
 pub if_statement-returns-in_err-yes-clause-stops : goal.if_statement-returns-in_err-yes-clause-stops
 if_statement-returns-in_err-yes-clause-stops t c = raised IfTail AStmt (bound_of c.args.room) _ c.from_residual-in_err-yes.result c.in_err-yes.field-0.0 c.from_residual-in_err-yes.ensures (λ x r f. if_yes x c.in_ok-test.ensures.reads f) c.in_err-yes.ensures.stops
@@ -184,13 +186,13 @@ pub if_statement-returns-in_err-no-clause-stops : goal.if_statement-returns-in_e
 if_statement-returns-in_err-no-clause-stops t c = raised IfTail AStmt (bound_of c.args.room) _ c.from_residual-in_err-no.result c.in_err-no.field-0.0 c.from_residual-in_err-no.ensures (λ x r f. if_no x c.in_ok-test.ensures.reads c.in_ok-yes.ensures.reads c.if-take_keyword.ensures.2 c.if-take_keyword.ensures.1 f) c.in_err-no.ensures.stops
 
 pub while_statement-returns-in_err-test-clause-stops : goal.while_statement-returns-in_err-test-clause-stops
-while_statement-returns-in_err-test-clause-stops t c = raised WhileTail ACondition (bound_of c.args.room) _ c.from_residual.result c.in_err-test.field-0.0 c.from_residual.ensures (λ x r f. while_head x f) c.in_err-test.ensures.stops
+while_statement-returns-in_err-test-clause-stops t c = raised WhileTail ACondition (bound_of c.args.room) _ c.from_residual.result c.in_err-test.field-0.0 c.from_residual.ensures (λ x r f. in_condition x f) c.in_err-test.ensures.stops
 
 pub while_statement-returns-in_err-body-clause-stops : goal.while_statement-returns-in_err-body-clause-stops
-while_statement-returns-in_err-body-clause-stops t c = raised WhileTail AStmt (bound_of c.args.room) _ c.from_residual-in_err-body.result c.in_err-body.field-0.0 c.from_residual-in_err-body.ensures (λ x r f. while_body x c.in_ok-test.ensures.reads f) c.in_err-body.ensures.stops
+while_statement-returns-in_err-body-clause-stops t c = raised WhileTail AStmt (bound_of c.args.room) _ c.from_residual-in_err-body.result c.in_err-body.field-0.0 c.from_residual-in_err-body.ensures (λ x r f. after_condition x c.in_ok-test.ensures.reads f) c.in_err-body.ensures.stops
 
 pub do_statement-returns-in_err-body-clause-stops : goal.do_statement-returns-in_err-body-clause-stops
-do_statement-returns-in_err-body-clause-stops t c = raised DoTail AStmt (bound_of c.args.room) _ c.from_residual.result c.in_err-body.field-0.0 c.from_residual.ensures (λ x r f. do_body x f) c.in_err-body.ensures.stops
+do_statement-returns-in_err-body-clause-stops t c = raised DoTail AStmt (bound_of c.args.room) _ c.from_residual.result c.in_err-body.field-0.0 c.from_residual.ensures (λ x r f. fails_first f) c.in_err-body.ensures.stops
 
 pub do_statement-returns-then-not-take_keyword-clause-stops : goal.do_statement-returns-then-not-take_keyword-clause-stops
 do_statement-returns-then-not-take_keyword-clause-stops t c = let n = c.if-not-take_keyword.ensures in ends_at n.1 (do_word any c.in_ok-body.ensures.reads n.0)
@@ -210,7 +212,7 @@ pub for_statement-returns-in_err-body-clause-stops : goal.for_statement-returns-
 for_statement-returns-in_err-body-clause-stops t c = raised ForTail AStmt (bound_of c.args.room) _ c.from_residual-in_err-body.result c.in_err-body.field-0.0 c.from_residual-in_err-body.ensures (λ x r f. for_body x _ c.in_ok-head.ensures.reads f) c.in_err-body.ensures.stops
 
 pub switch_statement-returns-in_err-on-clause-stops : goal.switch_statement-returns-in_err-on-clause-stops
-switch_statement-returns-in_err-on-clause-stops t c = raised SwitchTail ACondition (bound_of c.args.room) _ c.from_residual.result c.in_err-on.field-0.0 c.from_residual.ensures (λ x r f. switch_head x f) c.in_err-on.ensures.stops
+switch_statement-returns-in_err-on-clause-stops t c = raised SwitchTail ACondition (bound_of c.args.room) _ c.from_residual.result c.in_err-on.field-0.0 c.from_residual.ensures (λ x r f. in_condition x f) c.in_err-on.ensures.stops
 
 pub switch_statement-returns-then-not-take-clause-stops : goal.switch_statement-returns-then-not-take-clause-stops
 switch_statement-returns-then-not-take-clause-stops t c = let n = c.if-not-take.ensures in ends_at n.1 (switch_brace any c.in_ok-on.ensures.reads n.0)
@@ -232,7 +234,7 @@ groups-returns-in_err-body-clause-stops t c =
 
 pub statements-returns-in_err-first-clause-stops : goal.statements-returns-in_err-first-clause-stops
 statements-returns-in_err-first-clause-stops t c =
-    raised InGroup AStmt (bound_of c.args.room) _ c.from_residual.result c.in_err-first.field-0.0 c.from_residual.ensures (λ x r f. first_statement_fails x f) c.in_err-first.ensures.stops
+    raised InGroup AStmt (bound_of c.args.room) _ c.from_residual.result c.in_err-first.field-0.0 c.from_residual.ensures (λ x r f. stmt_fails x f) c.in_err-first.ensures.stops
 
 pub statements-returns-in_err-add_statement-clause-stops : goal.statements-returns-in_err-add_statement-clause-stops
 statements-returns-in_err-add_statement-clause-stops t c = only_memory InGroup (bound_of c.args.room) _ _ _ _ _ c.from_residual-in_err-add_statement.result c.in_err-add_statement.field-0.0 c.from_residual-in_err-add_statement.ensures c.in_err-add_statement.ensures
@@ -240,7 +242,7 @@ statements-returns-in_err-add_statement-clause-stops t c = only_memory InGroup (
 pub statements-returns-in_err-next-clause-stops : goal.statements-returns-in_err-next-clause-stops
 statements-returns-in_err-next-clause-stops t c =
     raised InGroup AStmt (bound_of c.args.room) _ c.from_residual-in_err-next.result c.in_err-next.field-0.0 c.from_residual-in_err-next.ensures
-    (λ x r f. c.next.invariant.leads x r (group_goes x (λ e. let h = c.next-test.ensures.1 e in cc) (first_statement_fails x f))) c.in_err-next.ensures.stops
+    (λ x r f. c.next.invariant.leads x r (group_goes x (λ e. let h = c.next-test.ensures.1 e in cc) (stmt_fails x f))) c.in_err-next.ensures.stops
 
 pub statements-returns-in_err-add_statement-2-clause-stops : goal.statements-returns-in_err-add_statement-2-clause-stops
 statements-returns-in_err-add_statement-2-clause-stops t c = only_memory InGroup (bound_of c.args.room) _ _ _ _ _ c.from_residual-in_err-add_statement-2.result c.in_err-add_statement-2.field-0.0 c.from_residual-in_err-add_statement-2.ensures c.in_err-add_statement-2.ensures
@@ -280,7 +282,7 @@ block_item-returns-clause-nests t c = added_passes ABlockItem (OpensAs DeepBlock
 pub if_statement-returns-in_err-test-clause-nests : goal.if_statement-returns-in_err-test-clause-nests
 if_statement-returns-in_err-test-clause-nests t c =
     passed IfTail ACondition (OpensAfter IF) OpensInside c.args.room c.args.room c.from_residual.result c.in_err-test.field-0.0 c.from_residual.ensures
-    (λ r f. if_head (bound_of c.args.room) f)
+    (λ r f. in_condition (bound_of c.args.room) f)
     (λ at q d. if_test d) c.in_err-test.ensures.nests
 
 pub if_statement-returns-in_err-yes-clause-nests : goal.if_statement-returns-in_err-yes-clause-nests
@@ -298,19 +300,19 @@ if_statement-returns-in_err-no-clause-nests t c =
 pub while_statement-returns-in_err-test-clause-nests : goal.while_statement-returns-in_err-test-clause-nests
 while_statement-returns-in_err-test-clause-nests t c =
     passed WhileTail ACondition (OpensAfter WHILE) OpensInside c.args.room c.args.room c.from_residual.result c.in_err-test.field-0.0 c.from_residual.ensures
-    (λ r f. while_head (bound_of c.args.room) f)
+    (λ r f. in_condition (bound_of c.args.room) f)
     (λ at q d. while_test d) c.in_err-test.ensures.nests
 
 pub while_statement-returns-in_err-body-clause-nests : goal.while_statement-returns-in_err-body-clause-nests
 while_statement-returns-in_err-body-clause-nests t c =
     passed WhileTail AStmt (OpensAfter WHILE) (OpensAs DeepStmt) c.args.room c.args.room c.from_residual-in_err-body.result c.in_err-body.field-0.0 c.from_residual-in_err-body.ensures
-    (λ r f. while_body (bound_of c.args.room) c.in_ok-test.ensures.reads f)
+    (λ r f. after_condition (bound_of c.args.room) c.in_ok-test.ensures.reads f)
     (λ at q d. while_opens c.in_ok-test.ensures.reads d) c.in_err-body.ensures.nests
 
 pub do_statement-returns-in_err-body-clause-nests : goal.do_statement-returns-in_err-body-clause-nests
 do_statement-returns-in_err-body-clause-nests t c =
     passed DoTail AStmt (OpensAfter DO) (OpensAs DeepStmt) c.args.room c.args.room c.from_residual.result c.in_err-body.field-0.0 c.from_residual.ensures
-    (λ r f. do_body (bound_of c.args.room) f)
+    (λ r f. fails_first f)
     (λ at q d. do_opens d) c.in_err-body.ensures.nests
 
 pub do_statement-returns-in_err-test-clause-nests : goal.do_statement-returns-in_err-test-clause-nests
@@ -334,7 +336,7 @@ for_statement-returns-in_err-body-clause-nests t c =
 pub switch_statement-returns-in_err-on-clause-nests : goal.switch_statement-returns-in_err-on-clause-nests
 switch_statement-returns-in_err-on-clause-nests t c =
     passed SwitchTail ACondition (OpensAfter SWITCH) OpensInside c.args.room c.args.room c.from_residual.result c.in_err-on.field-0.0 c.from_residual.ensures
-    (λ r f. switch_head (bound_of c.args.room) f)
+    (λ r f. in_condition (bound_of c.args.room) f)
     (λ at q d. switch_test d) c.in_err-on.ensures.nests
 
 pub switch_statement-returns-in_err-groups-clause-nests : goal.switch_statement-returns-in_err-groups-clause-nests
@@ -360,8 +362,8 @@ groups-returns-in_err-body-clause-nests t c =
 pub statements-returns-in_err-first-clause-nests : goal.statements-returns-in_err-first-clause-nests
 statements-returns-in_err-first-clause-nests t c =
     passed InGroup AStmt (OpensAs DeepStmts) (OpensAs DeepStmt) c.args.room c.args.room c.from_residual.result c.in_err-first.field-0.0 c.from_residual.ensures
-    (λ r f. first_statement_fails (bound_of c.args.room) f)
-    (λ at q d. stmt_first d) c.in_err-first.ensures.nests
+    (λ r f. stmt_fails (bound_of c.args.room) f)
+    (λ at q d. first_stmt_opens d) c.in_err-first.ensures.nests
 
 pub statements-returns-in_err-add_statement-clause-nests : goal.statements-returns-in_err-add_statement-clause-nests
 statements-returns-in_err-add_statement-clause-nests t c =
@@ -370,8 +372,8 @@ statements-returns-in_err-add_statement-clause-nests t c =
 pub statements-returns-in_err-next-clause-nests : goal.statements-returns-in_err-next-clause-nests
 statements-returns-in_err-next-clause-nests t c =
     passed InGroup AStmt (OpensAs DeepStmts) (OpensAs DeepStmt) c.args.room c.args.room c.from_residual-in_err-next.result c.in_err-next.field-0.0 c.from_residual-in_err-next.ensures
-    (λ r f. c.next.invariant.leads (bound_of c.args.room) r (group_goes (bound_of c.args.room) (λ e. let h = c.next-test.ensures.1 e in cc) (first_statement_fails (bound_of c.args.room) f)))
-    (λ at q d. c.next.invariant.opens at _ q (stmt_first d)) c.in_err-next.ensures.nests
+    (λ r f. c.next.invariant.leads (bound_of c.args.room) r (group_goes (bound_of c.args.room) (λ e. let h = c.next-test.ensures.1 e in cc) (stmt_fails (bound_of c.args.room) f)))
+    (λ at q d. c.next.invariant.opens at _ q (first_stmt_opens d)) c.in_err-next.ensures.nests
 
 pub statements-returns-in_err-add_statement-2-clause-nests : goal.statements-returns-in_err-add_statement-2-clause-nests
 statements-returns-in_err-add_statement-2-clause-nests t c =

@@ -11,9 +11,10 @@ use Rattle.c_syntax.specs.Grammar.{expression_level}
 use Rattle.c_parser_phrases.specs.Refusing.{bound_of}
 use Rattle.c_syntax_printing.specs.Opens.{DeepDecl, DeepExpr}
 use Rattle.c_parser.specs.Nesting.{OpensAs, OpensInHead}
-use Rattle.c_parser.proofs.StmtGoesOn.{opens_at, first_declaration, first_expression}
+use Rattle.c_parser.proofs.StmtGoesOn.{opens_at}
 use Rattle.c_parser.proofs.Passing.{passed, passed_deep}
 use Rattle.c_parser.proofs.statements.for_first.Goals as goal
+use Rattle.c_syntax_printing.proofs.BodyOpens.{for_decl_opens, for_first_opens}
 
 pub returns-then-take-clause-reads : goal.returns-then-take-clause-reads
 returns-then-take-clause-reads c = let o = c.if-take.ensures in first_none o.2 o.1
@@ -55,14 +56,14 @@ returns-in_err-declaration-clause-nests c =
     let n = c.if-take.ensures in
     passed AFirst APlainDecl OpensInHead (OpensAs DeepDecl) c.args.room c.args.room c.from_residual.result c.in_err-declaration.field-0.0 c.from_residual.ensures
     (λ r f. fails_at (sym n.1) (first_declaration_fails (bound_of c.args.room) (c.is_at_specifier.ensures.0 c.if-is_at_specifier.true) f))
-    (λ at q d. first_declaration (opens_at (sym n.1) d)) c.in_err-declaration.ensures.nests
+    (λ at q d t o w h. for_decl_opens w h (opens_at (sym n.1) d)) c.in_err-declaration.ensures.nests
 
 pub returns-in_err-first-clause-nests : goal.returns-in_err-first-clause-nests
 returns-in_err-first-clause-nests c =
     let n = c.if-take.ensures in
     passed_deep AFirst (λ x. AnExpr x expression_level) OpensInHead (λ at p n. DeepExpr at p n expression_level) c.args.room c.from_residual-in_err-first.result c.in_err-first.field-0.0 c.from_residual-in_err-first.ensures
     (λ r f. fails_at (sym n.1) (first_expression_fails (bound_of c.args.room) n.1 n.0 (not_there c.is_at_specifier.result c.if-is_at_specifier.false c.is_at_specifier.ensures) f))
-    (λ at q d. first_expression (opens_at (sym n.1) d)) c.in_err-first.ensures.nests
+    (λ at q d t o w h. for_first_opens w h (opens_at (sym n.1) d)) c.in_err-first.ensures.nests
 
 pub declaration-requires : goal.declaration-requires
 declaration-requires c = c.is_at_specifier.ensures.0 c.if-is_at_specifier.true

@@ -1,5 +1,5 @@
-use Rattle.std.proofs.Common.{ℕ, List, [], ◌∷◌, arith}
-use Rattle.c_parser_phrases.proofs.Known.{index_within, index_beyond}
+use Rattle.std.proofs.Common.{ℕ, List, [], ◌∷◌, sym, arith}
+use Rattle.std.proofs.lemmas.List.{get_or_default, get_or_past}
 use Rattle.c_parser_phrases.proofs.looking.code_rank.Goals as goal
 
 abbrev table : List ℕ
@@ -7,7 +7,7 @@ table =
     1 ∷ 100 ∷ 1 ∷ 100 ∷ 100 ∷ 100 ∷ 1 ∷ 1 ∷ 1 ∷ 1 ∷ 7 ∷ 2 ∷ 3 ∷ 3 ∷ 100 ∷ 100 ∷ 2 ∷ 2 ∷ 4 ∷ 4 ∷ 5 ∷ 5 ∷ 5 ∷ 5 ∷ 6 ∷ 6 ∷ 8 ∷ 9 ∷ 10 ∷ 11 ∷ 12 ∷ 100 ∷ 100 ∷ 13 ∷ 13 ∷ 13 ∷ 13 ∷ 13 ∷ 13 ∷ 13 ∷ 13 ∷ 13 ∷ 13 ∷ 13 ∷ 14 ∷ []
 
 pub returns-then-code-lt45 : goal.returns-then-code-lt45
-returns-then-code-lt45 c = index_within table c.args.code 0 100 (omega (arith, c.if-code-lt45.true))
+returns-then-code-lt45 c = get_or_default table c.args.code 0 100 (omega (arith, c.if-code-lt45.true))
 
 pub returns-else-code-lt45 : goal.returns-else-code-lt45
-returns-else-code-lt45 c = index_beyond table c.args.code 100 (omega (arith, c.if-code-lt45.false))
+returns-else-code-lt45 c = sym (get_or_past table c.args.code 100 (omega (arith, c.if-code-lt45.false)))

@@ -1,6 +1,6 @@
 use Rattle.std.proofs.Common.{refl}
+use Rattle.std.proofs.Math.Logic.{⊎_map}
 use Rattle.c_syntax_printing.specs.Nodes.{in_comma}
-use Rattle.c_parser_phrases.proofs.Deepest.{part_exprs}
 use Rattle.c_parser_phrases.proofs.Rows.{comma_is, comma_height, made_as, inside_as}
 use Rattle.c_parser_phrases.proofs.nodes.comma_node.Goals as goal
 
@@ -11,4 +11,4 @@ pub measured-requires-clause-exact : goal.measured-requires-clause-exact
 measured-requires-clause-exact c = comma_height refl c.args.list.exact (comma_is c.args.at c.args.list.trees)
 
 pub returns-clause-deep : goal.returns-clause-deep
-returns-clause-deep c = λ d. c.measured.ensures.deep (inside_as (comma_is c.args.at c.args.list.trees) (part_exprs in_comma d))
+returns-clause-deep c = λ d. c.measured.ensures.deep (inside_as (comma_is c.args.at c.args.list.trees) (⊎_map (λ z. z) in_comma d))

@@ -5,10 +5,11 @@ use Rattle.std.proofs.lemmas.Result.{err_from_is_err_and}
 use Rattle.c_syntax.specs.Grammar.{assignment_level}
 use Rattle.c_syntax_printing.specs.Phrases.{any, AnExpr, AnInit}
 use Rattle.c_parser_phrases.proofs.Raising.{told, telling, raised, raised_in, no_memory}
-use Rattle.c_parser_phrases.proofs.RefusalsOfDeclarators.{init_deep, value_init_fails, list_fails, init_fails, init_leads, later_init_fails, later_init_leads, list_refused}
+use Rattle.c_parser_phrases.proofs.RefusalsOfDeclarators.{init_deep, value_init_fails, list_fails, init_leads, later_init_fails, later_init_leads, list_refused}
 use Rattle.c_parser_phrases.proofs.RefusalsOfLists.{list_followed}
 use Rattle.c_lexer.specs.declared.punctuator.TheConstants.{LEFT_BRACE}
 use Rattle.c_syntax_printing.specs.Opens.{DeepExpr, DeepInit}
+use Rattle.c_syntax_printing.proofs.InitFails.{first_init_fails}
 use Rattle.c_syntax_printing.proofs.InitOpens.{init_value_opens, first_init_opens}
 use Rattle.c_parser_phrases.specs.Reading.{OpensInit}
 use Rattle.c_parser_phrases.proofs.Raising.{told_deep}
@@ -70,7 +71,7 @@ pub initialiser-returns-then-goes_on_as_assignment-clause-stops : goal.initialis
 initialiser-returns-then-goes_on_as_assignment-clause-stops t c = list_followed (c.is_at.ensures.stands.0 c.if-not-is_at.false) c.skip.ensures.skips c.in_ok-list.ensures.parses (c.goes_on_as_assignment.ensures.0 c.if-goes_on_as_assignment.true) any
 
 pub initialisers-returns-in_err-first-clause-parses : goal.initialisers-returns-in_err-first-clause-parses
-initialisers-returns-in_err-first-clause-parses t c = let w = err_from_is_err_and c.from_residual.result c.from_residual.ensures.1 in rw (w.1, w.2) (raised (telling {A = AnInit} {D = DeepInit} _ c.in_err-first.ensures.stops c.in_err-first.ensures.nests) (λ b r f. init_fails b r f) (λ at r o. first_init_opens o))
+initialisers-returns-in_err-first-clause-parses t c = let w = err_from_is_err_and c.from_residual.result c.from_residual.ensures.1 in rw (w.1, w.2) (raised (telling {A = AnInit} {D = DeepInit} _ c.in_err-first.ensures.stops c.in_err-first.ensures.nests) (λ b r f. first_init_fails f) (λ at r o. first_init_opens o))
 
 pub initialisers-returns-in_err-push-clause-parses : goal.initialisers-returns-in_err-push-clause-parses
 initialisers-returns-in_err-push-clause-parses t c = let w = err_from_is_err_and c.from_residual-in_err-push.result c.from_residual-in_err-push.ensures.1 in rw (w.1, w.2) (no_memory)

@@ -12,11 +12,12 @@ use Rattle.c_parser_phrases.proofs.Made.{when_read, tree_made, list_first, list_
 use Rattle.c_parser_phrases.proofs.Made.{first_height as exprs_first_height, grown_height as exprs_grown_height}
 use Rattle.c_parser_phrases.proofs.Declaring.{declared_made, core_made, pointer_made, name_made, nothing_made, there_is, brackets_made, param_made, params_read, each_first, each_grown, some_first, some_grown, alone_read}
 use Rattle.c_parser_phrases.proofs.Declaring.{first_height as params_first_height, grown_height as params_grown_height}
-use Rattle.c_syntax.specs.Tokens.{place}
 use Rattle.c_lexer.specs.declared.punctuator.TheConstants.{LEFT_PARENTHESIS, ASTERISK, QUESTION, COMMA}
 use Rattle.c_syntax.specs.Grammar.{cast_level}
 use Rattle.c_syntax_printing.specs.Phrases.{any}
 use Rattle.c_syntax_printing.proofs.Combine.{fails_at}
+use Rattle.c_syntax_printing.proofs.SuffixFails.{call_fails}
+use Rattle.c_syntax_printing.proofs.DeclaratorFails.{first_param_fails}
 use Rattle.c_syntax_printing.proofs.LevelFails.{comma_first, assigned_operand_fails, value_fails, test_fails, first_operand}
 use Rattle.c_parser_phrases.proofs.Exits.{taken, uncast, paired_type}
 use Rattle.c_parser_phrases.proofs.Starts.{star_there}
@@ -26,9 +27,9 @@ use Rattle.c_parser_phrases.proofs.Opened.{some_at, some_is, some_starts, some_c
 use Rattle.c_parser_phrases.proofs.OpenedDeclarators.{type_declarator_opens, param_declarator_opens, param_leads_open, later_param_leads_open, later_param_open, pointer_opens_here, pointer_inner_opens, name_opens, named_pair_opens, declarator_pair_opens, inside_declarator_opens, some_inside, parts_open, mark_opens, size_part_opens, params_part_opens}
 use Rattle.c_parser_phrases.proofs.Raising.{nested_at, no_memory, wrong_here, deep_at, raised, raised_in, raised_enclosed, raised_flat, not_at_word, ends_at, past_at, at_from}
 use Rattle.c_parser_phrases.proofs.Refusals.{comma_high, comma_rest, rest_fails, rest_leads, assigned_after, assigned_to_cast, assigned_high, assigned_rest, choice_high, yes_fails, colon_fails, no_fails, operator_high, right_first, right_fails, bare_cast, no_nodes, cast_type_fails, cast_unclosed, cast_operand_fails, bare_unary, prefix_deep, prefix_is, step_operand_fails, operand_fails, sizeof_operand_fails, sizeof_type_name_fails, sizeof_unclosed, sizeof_suffixed}
-use Rattle.c_parser_phrases.proofs.Refusals.{bare_postfix, suffix_high, suffix_fails, string_fails, index_fails, index_unclosed, arguments_lead, member_fails, first_argument_fails, later_argument_fails, arguments_unclosed, leaf_deep, leaf_refused, leaf_strings, no_leaf, pair_wrong, pair_deep, inside_fails, inside_unclosed, inside_strings, parentheses_stand}
+use Rattle.c_parser_phrases.proofs.Refusals.{bare_postfix, suffix_high, suffix_fails, string_fails, index_fails, index_unclosed, member_fails, first_argument_fails, later_argument_fails, arguments_unclosed, leaf_deep, leaf_refused, leaf_strings, no_leaf, pair_wrong, pair_deep, inside_fails, inside_unclosed, inside_strings, parentheses_stand}
 use Rattle.c_parser_phrases.proofs.RefusalsOfDeclarators.{type_spec_fails, type_declarator_fails, param_spec_fails, param_declarator_fails, pointer_deep, pointer_inner_fails, name_wrong, name_deep, name_stands, named_there, none_is, opens_at, no_name_wrong, no_opening, bare_core, pair_deep_named, pair_deep_declarator, pair_wrong_declarator, inside_declarator_fails, nothing_wrong, declarator_unclosed}
-use Rattle.c_parser_phrases.proofs.RefusalsOfDeclarators.{read_so_far, part_fails, part_high, neither, size_part_fails, params_part_fails, size_expression_fails, size_unclosed, param_fails, param_leads, later_param_fails, later_param_leads, params_not_closed}
+use Rattle.c_parser_phrases.proofs.RefusalsOfDeclarators.{read_so_far, part_fails, part_high, neither, size_part_fails, params_part_fails, size_expression_fails, size_unclosed, param_leads, later_param_fails, later_param_leads, params_not_closed}
 use Rattle.c_parser_phrases.proofs.cursor.Cursor.+phrases.Goals as goal
 
 pub arguments-returns-then-take-clause-parses : goal.arguments-returns-then-take-clause-parses
@@ -340,7 +341,7 @@ pub suffixed-returns-then-not-take-clause-parses : goal.suffixed-returns-then-no
 suffixed-returns-then-not-take-clause-parses t c = λ t h. wrong_here (ends_at c.if-not-take.ensures.1 (index_unclosed (suffix_is t c.in-Index.is h) c.in_ok-inside-in-Index.ensures.parses c.if-not-take.ensures.0 any))
 
 pub suffixed-returns-in_err-list-in-Call-clause-parses : goal.suffixed-returns-in_err-list-in-Call-clause-parses
-suffixed-returns-in_err-list-in-Call-clause-parses t c = λ t h. let w = err_from_is_err_and c.from_residual-in_err-list-in-Call.result c.from_residual-in_err-list-in-Call.ensures.1 in rw (w.1, w.2) (raised_in (omega (arith, c.requires)) c.in_node-in-Call.ensures.nodes c.in_node-in-Call.ensures.pairs c.in_err-list-in-Call.ensures.parses (arguments_lead (suffix_is t c.in-Call.is h)) (λ at y o. arguments_open (suffix_is t c.in-Call.is h) o))
+suffixed-returns-in_err-list-in-Call-clause-parses t c = λ t h. let w = err_from_is_err_and c.from_residual-in_err-list-in-Call.result c.from_residual-in_err-list-in-Call.ensures.1 in rw (w.1, w.2) (raised_in (omega (arith, c.requires)) c.in_node-in-Call.ensures.nodes c.in_node-in-Call.ensures.pairs c.in_err-list-in-Call.ensures.parses (λ b r f. call_fails (suffix_is t c.in-Call.is h) f) (λ at y o. arguments_open (suffix_is t c.in-Call.is h) o))
 
 pub suffixed-returns-in_err-name-in-Dot-clause-parses : goal.suffixed-returns-in_err-name-in-Dot-clause-parses
 suffixed-returns-in_err-name-in-Dot-clause-parses t c = λ t h. let w = err_from_is_err_and c.from_residual-in_err-name-in-Dot.result c.from_residual-in_err-name-in-Dot.ensures.1 in rw (w.1, w.2) (raised_flat c.in_err-name-in-Dot.ensures.stops (member_fails dot (suffix_is t c.in-Dot.is h)))
@@ -454,7 +455,7 @@ pub size-returns-in_err-size-clause-parses : goal.size-returns-in_err-size-claus
 size-returns-in_err-size-clause-parses t c = let w = err_from_is_err_and c.from_residual.result c.from_residual.ensures.1 in rw (w.1, w.2) (raised c.in_err-size.ensures.parses (size_expression_fails (not_there c.is_at.result c.if-is_at.false c.is_at.ensures.stands)) (λ at y o. o))
 
 pub parameters-returns-in_err-first-clause-parses : goal.parameters-returns-in_err-first-clause-parses
-parameters-returns-in_err-first-clause-parses t c = let w = err_from_is_err_and c.from_residual.result c.from_residual.ensures.1 in rw (w.1, w.2) (raised c.in_err-first.ensures.parses (λ b r f. param_fails b r f) (λ at y o. o))
+parameters-returns-in_err-first-clause-parses t c = let w = err_from_is_err_and c.from_residual.result c.from_residual.ensures.1 in rw (w.1, w.2) (raised c.in_err-first.ensures.parses (λ b r f. first_param_fails f) (λ at y o. o))
 
 pub parameters-returns-in_err-push-clause-parses : goal.parameters-returns-in_err-push-clause-parses
 parameters-returns-in_err-push-clause-parses t c = let w = err_from_is_err_and c.from_residual-in_err-push.result c.from_residual-in_err-push.ensures.1 in rw (w.1, w.2) no_memory

@@ -1,5 +1,5 @@
 use Rattle.std.proofs.Common.{arith}
-use Rattle.c_parser_phrases.proofs.Known.{unary_of}
+use Rattle.c_syntax_printing.proofs.Begun.{unary_of}
 use Rattle.c_parser_phrases.proofs.Lacking.{unary_empty, unary_other, unary_outside}
 use Rattle.c_parser_phrases.proofs.cursor.Cursor.unary.Goals as goal
 
