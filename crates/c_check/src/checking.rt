@@ -9,7 +9,7 @@ ghost use Rattle.dm_base.specs.declared.mode.Mode.TheVariants.{Plain};
 ghost use Rattle.c_rules_laws.specs.Lexical.{IsUnitLexical};
 
 use crate::found::{Found, found_in};
-use c_check_items::typed_program;
+use crate::typed_program;
 use c_check_values::CheckError;
 use c_rules::{a_plain_program_calls_no_null_call, a_typed_unit_violates_no_rule};
 use c_rules_laws::a_typed_unit_is_a_program;

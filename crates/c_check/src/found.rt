@@ -1,6 +1,6 @@
 ghost use Rattle.std.specs.Prelude.{◌≡◌, IfOk};
 ghost use Rattle.c_check_values.specs.Agreement.{AgreesWith};
-ghost use Rattle.c_check_items.specs.OutputView.{output_of};
+ghost use Rattle.c_check.specs.OutputView.{output_of};
 ghost use Rattle.c_rules.specs.Checked.{fine, met, on};
 ghost use Rattle.c_rules.specs.Items.{after_items, items};
 ghost use Rattle.c_rules.specs.Scopes.{nothing_before};
@@ -8,7 +8,7 @@ ghost use Rattle.c_rules.specs.Units.{env_before, env_behind, few_names};
 ghost use Rattle.c_check_values.specs.View.{before_of, env_of};
 ghost use Rattle.c_syntax.specs.UnitView.{items_of};
 
-use c_check_items::{Output, environment_before, items};
+use crate::{Output, environment_before, items};
 use c_check_values::{Before, CheckError, Environment, nothing_before};
 use c_syntax::Item;
 use dm_base::Mode;

@@ -1,3 +1,4 @@
+ghost use Rattle.std.specs.Prelude.{◌≡◌, IfOk};
 ghost use Rattle.c_check_initialisers.specs.Agreement.{AgreesWith};
 ghost use Rattle.c_check_initialisers.specs.TypedExpressionView.{typed_expression_of};
 ghost use Rattle.c_check_bodies.specs.AroundView.{around_of};
@@ -15,6 +16,7 @@ use crate::around::Around;
 use crate::statement_tree::{StatementTree, bare, found};
 use c_check_initialisers::{C3, C8, CheckError, TypedExpression, as_if_assigned, is_void};
 use c_tree::{CType, TStmt};
+use dm_base::OutOfMemory;
 use std::alloc::Global;
 
 /// A `break`, which stands in a loop or a switch (C99 6.8.6.3).
@@ -47,6 +49,15 @@ pub fn returned_void(alloc: Global, returns: &CType, at: u32) -> Result<Statemen
     found(bare(alloc, TStmt::Return(None)))
 }
 
+// A `return` with this value.
+fn value_returned(alloc: Global, g: TypedExpression) -> Result<StatementTree, OutOfMemory>
+    ensures { IfOk result (λ l. statement_tree_of l ≡ bare (return_value (tree_of (typed_expression_of g)))) }
+{
+    let tree = g.into_tree(alloc)?;
+    let value = Box::new(alloc, tree)?;
+    bare(alloc, TStmt::Return(Some(value)))
+}
+
 /// A `return` with a value, which is converted as if by assignment to the function's result (C99 6.8.6.4 paragraph 3).
 pub fn returned_value(
     alloc: Global,
@@ -57,6 +68,5 @@ pub fn returned_value(
     ensures { AgreesWith statement_tree_of result (gives (gives (as_if_assigned at (ctype_of returns.now) (typed_expression_of g)) (λ a. return_value (tree_of a))) bare) }
 {
     let assigned = as_if_assigned(alloc, at, returns, g)?;
-    let tree = assigned.into_tree(alloc)?;
-    found(bare(alloc, TStmt::Return(Some(tree))))
+    found(value_returned(alloc, assigned))
 }

@@ -21,6 +21,7 @@ pub fn block(alloc: Global, items: StatementTrees) -> Result<StatementTree, OutO
 pub fn only_if(alloc: Global, test: TExpr, yes: StatementTree) -> Result<StatementTree, OutOfMemory>
     ensures { IfOk result (λ l. statement_tree_of l ≡ with_tree (statement_tree_of yes) (if_else (expr_of test) (statement_tree_of yes).tree empty)) }
 {
+    let test = Box::new(alloc, test)?;
     let (tree, variables) = yes.into_parts();
     with_variables(
         alloc,
@@ -42,6 +43,7 @@ pub fn if_else(
 ) -> Result<StatementTree, OutOfMemory>
     ensures { IfOk result (λ l. statement_tree_of l ≡ joined (statement_tree_of yes) (statement_tree_of no) (if_else (expr_of test) (statement_tree_of yes).tree (statement_tree_of no).tree)) }
 {
+    let test = Box::new(alloc, test)?;
     let (tree, variables) = yes.into_parts();
     let (other, others) = no.into_parts();
     let all = variables_of_both(variables, others)?;

@@ -133,7 +133,8 @@ fn laid_switch(
 ) -> Result<StatementTree, OutOfMemory>
     ensures { IfOk result (λ l. statement_tree_of l ≡ with_tree (labelled_of gs).groups (switch_on (tree_of (typed_expression_of g)) (labelled_of gs).groups.tree)) }
 {
-    let on = g.into_tree(alloc)?;
+    let tree = g.into_tree(alloc)?;
+    let on = Box::new(alloc, tree)?;
     let (groups, _labels, variables) = gs.into_parts();
     with_variables(alloc, TStmt::Switch { on, groups }, variables)
 }

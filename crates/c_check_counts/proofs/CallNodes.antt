@@ -30,7 +30,7 @@ in_list i v is = ap (λ k. places_of_init (init_at i.at k)) is ∙ ap places_of_
 pub in_block : (s : StmtTree) (v : Vec BlockItem Global) → s.kind ≡ Block v → places_of_stmt (stmt_of s) ≡ places_of_block (block_items_of v.items)
 in_block s v is = ap (λ k. places_of_stmt (stmt_at s.at k)) is ∙ ap places_of_stmt (block_is s.at v)
 
-pub in_switch : (s : StmtTree) (e : ExprTree) (v : Vec Group Global) → s.kind ≡ Switch e v → places_of_stmt (stmt_of s) ≡ places (expr_of e) ++ places_of_groups (groups_of v.items)
+pub in_switch : (s : StmtTree) (e : Box ExprTree Global) (v : Vec Group Global) → s.kind ≡ Switch e v → places_of_stmt (stmt_of s) ≡ places (expr_of e.value) ++ places_of_groups (groups_of v.items)
 in_switch s e v is = ap (λ k. places_of_stmt (stmt_at s.at k)) is ∙ ap places_of_stmt (switch_is s.at e v)
 
 pub in_group : (g : Group) → places_of_group g ≡ places_of_stmts (stmts_of (out-Group g).body.items)

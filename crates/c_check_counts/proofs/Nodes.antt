@@ -1,5 +1,6 @@
 -- What a node with lists, boxes or optional parts in it holds.
 use Rattle.std.proofs.Common.{◌≡◌, Vec, Global, ap, ◌∙◌, append-nil}
+use Rattle.std.specs.Prelude.{Box}
 use Rattle.c_syntax.specs.declared.tree.Expr.{Expr as ExprTree}
 use Rattle.c_syntax.specs.declared.tree.BlockItem.{BlockItem}
 use Rattle.c_syntax.specs.declared.tree.Stmt.{Stmt as StmtTree}
@@ -18,7 +19,7 @@ use Rattle.c_syntax.proofs.NodeRows.{block_is, switch_is, group_is}
 pub names_in_block : (s : StmtTree) (v : Vec BlockItem Global) → s.kind ≡ Block v → names_of_stmt (stmt_of s) ≡ names_of_block (block_items_of v.items)
 names_in_block s v is = ap (λ k. names_of_stmt (stmt_at s.at k)) is ∙ ap names_of_stmt (block_is s.at v)
 
-pub names_in_switch : (s : StmtTree) (e : ExprTree) (v : Vec Group Global) → s.kind ≡ Switch e v → names_of_stmt (stmt_of s) ≡ names_of_groups (groups_of v.items)
+pub names_in_switch : (s : StmtTree) (e : Box ExprTree Global) (v : Vec Group Global) → s.kind ≡ Switch e v → names_of_stmt (stmt_of s) ≡ names_of_groups (groups_of v.items)
 names_in_switch s e v is = ap (λ k. names_of_stmt (stmt_at s.at k)) is ∙ ap names_of_stmt (switch_is s.at e v)
 
 pub names_in_group : (g : Group) → names_of_group g ≡ names_of_stmts (stmts_of (out-Group g).body.items)

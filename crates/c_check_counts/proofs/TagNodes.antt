@@ -70,13 +70,13 @@ of_list i v is = ap (λ k. tags_of_init (init_at i.at k)) is ∙ ap tags_of_init
 pub of_block : (aside : Bool) (s : StmtTree) (v : Vec BlockItem Global) → s.kind ≡ Block v → tags_of_stmt aside (stmt_of s) ≡ tags_of_block aside (block_items_of v.items)
 of_block aside s v is = ap (λ k. tags_of_stmt aside (stmt_at s.at k)) is ∙ ap (tags_of_stmt aside) (block_is s.at v)
 
-pub of_if_none : (aside : Bool) (s : StmtTree) (e : ExprTree) (y : Box StmtTree Global) (o : Option (Box StmtTree Global)) → s.kind ≡ If e y o → o ≡ None → tags_of_stmt aside (stmt_of s) ≡ tags_of_expr (expr_of e) ++ tags_of_stmt aside (stmt_of y.value)
+pub of_if_none : (aside : Bool) (s : StmtTree) (e : Box ExprTree Global) (y : Box StmtTree Global) (o : Option (Box StmtTree Global)) → s.kind ≡ If e y o → o ≡ None → tags_of_stmt aside (stmt_of s) ≡ tags_of_expr (expr_of e.value) ++ tags_of_stmt aside (stmt_of y.value)
 of_if_none aside s e y o is none = ap (λ k. tags_of_stmt aside (stmt_at s.at k)) (is ∙ ap (If e y) none)
 
-pub of_if_some : (aside : Bool) (s : StmtTree) (e : ExprTree) (y b : Box StmtTree Global) (o : Option (Box StmtTree Global)) → s.kind ≡ If e y o → o ≡ Some b → tags_of_stmt aside (stmt_of s) ≡ tags_of_expr (expr_of e) ++ (tags_of_stmt aside (stmt_of y.value) ++ tags_of_stmt aside (stmt_of b.value))
+pub of_if_some : (aside : Bool) (s : StmtTree) (e : Box ExprTree Global) (y b : Box StmtTree Global) (o : Option (Box StmtTree Global)) → s.kind ≡ If e y o → o ≡ Some b → tags_of_stmt aside (stmt_of s) ≡ tags_of_expr (expr_of e.value) ++ (tags_of_stmt aside (stmt_of y.value) ++ tags_of_stmt aside (stmt_of b.value))
 of_if_some aside s e y b o is some = ap (λ k. tags_of_stmt aside (stmt_at s.at k)) (is ∙ ap (If e y) some)
 
-pub of_switch : (aside : Bool) (s : StmtTree) (e : ExprTree) (v : Vec Group Global) → s.kind ≡ Switch e v → tags_of_stmt aside (stmt_of s) ≡ tags_of_expr (expr_of e) ++ tags_of_groups aside (groups_of v.items)
+pub of_switch : (aside : Bool) (s : StmtTree) (e : Box ExprTree Global) (v : Vec Group Global) → s.kind ≡ Switch e v → tags_of_stmt aside (stmt_of s) ≡ tags_of_expr (expr_of e.value) ++ tags_of_groups aside (groups_of v.items)
 of_switch aside s e v is = ap (λ k. tags_of_stmt aside (stmt_at s.at k)) is ∙ ap (tags_of_stmt aside) (switch_is s.at e v)
 
 pub of_group : (aside : Bool) (g : Group) → tags_of_group aside g ≡ tags_of_labels (labels_of (out-Group g).labels.items) ++ tags_of_stmts aside (stmts_of (out-Group g).body.items)

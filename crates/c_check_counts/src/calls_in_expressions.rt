@@ -1,6 +1,5 @@
 ghost use Rattle.std.specs.Prelude.{◌≡◌, ◌++◌, OnOk};
-ghost use Rattle.c_syntax.specs.View.{expr_of};
-ghost use Rattle.c_syntax.specs.UnitView.{maybe_of};
+ghost use Rattle.c_syntax.specs.View.{expr_behind, expr_of};
 ghost use Rattle.c_syntax.specs.Writes.{exprs_of};
 ghost use Rattle.c_rules.specs.PlacesOfCalls.{places, places_of_all, places_of_maybe};
 
@@ -73,8 +72,8 @@ fn add_expressions(into: &mut Vec<u32>, es: &[Expr]) -> Result<(), OutOfMemory>
 }
 
 // Adds those in an expression, where one stands.
-pub fn add_maybe(into: &mut Vec<u32>, e: &Option<Expr>) -> Result<(), OutOfMemory>
-    ensures { OnOk result (into.new.items ≡ into.old.items ++ places_of_maybe (maybe_of e.now)) }
+pub fn add_maybe(into: &mut Vec<u32>, e: &Option<Box<Expr>>) -> Result<(), OutOfMemory>
+    ensures { OnOk result (into.new.items ≡ into.old.items ++ places_of_maybe (expr_behind e.now)) }
 {
     match e {
         Some(e) => add_expression(into, e),

@@ -107,7 +107,7 @@ fn add_declarator<'t>(into: &mut Vec<&'t [u8]>, d: &'t Declarator) -> Result<(),
         DeclaratorKind::Pointer(inner) => add_inner(into, inner),
         DeclaratorKind::Array { inner, size } => {
             add_inner(into, inner)?;
-            add_size(into, size)
+            add_boxed(into, size)
         }
         DeclaratorKind::Function { inner, params } => {
             add_inner(into, inner)?;
@@ -129,11 +129,12 @@ fn add_inner<'t>(
     }
 }
 
+// Adds the tags in an expression behind a box, where one stands.
 #[cycle(tags_in)]
-fn add_size<'t>(into: &mut Vec<&'t [u8]>, size: &'t Option<Box<Expr>>) -> Result<(), OutOfMemory>
-    ensures { OnOk result (seen into.new.items ≡ seen into.old.items ++ tags_of_maybe (expr_behind size.now)) }
+fn add_boxed<'t>(into: &mut Vec<&'t [u8]>, e: &'t Option<Box<Expr>>) -> Result<(), OutOfMemory>
+    ensures { OnOk result (seen into.new.items ≡ seen into.old.items ++ tags_of_maybe (expr_behind e.now)) }
 {
-    match size {
+    match e {
         Some(e) => add_expr(into, e),
         None => Ok(()),
     }
@@ -320,15 +321,15 @@ fn add_statement<'t>(into: &mut Vec<&'t [u8]>, aside: bool, s: &'t Stmt) -> Resu
             body,
         } => {
             add_first(into, aside, first)?;
-            add_maybe(into, test)?;
-            add_maybe(into, step)?;
+            add_boxed(into, test)?;
+            add_boxed(into, step)?;
             add_statement(into, aside, body)
         }
         StmtKind::Switch { on, groups } => {
             add_expr(into, on)?;
             add_groups(into, aside, groups)
         }
-        StmtKind::Return(e) => add_maybe(into, e),
+        StmtKind::Return(e) => add_boxed(into, e),
     }
 }
 

@@ -33,11 +33,11 @@ use Rattle.c_tree.specs.Tree as typed
 pub block_seen : (s : StmtTree) (v : Vec BlockItem Global) (items : List BlockItem) → s.kind ≡ Block v → items ≡ v.items → block s.at (block_items_of items) ≡ stmt_of s
 block_seen s v items is same = ap (λ l. block s.at (block_items_of l)) same ∙ (sym (block_is s.at v) ∙ ap (stmt_at s.at) (sym is))
 
-pub switch_seen : (s : StmtTree) (e : ExprTree) (v : Vec Group Global) (groups : List Group) → s.kind ≡ Switch e v → groups ≡ v.items → switch_on s.at (expr_of e) (groups_of groups) ≡ stmt_of s
-switch_seen s e v groups is same = ap (λ l. switch_on s.at (expr_of e) (groups_of l)) same ∙ (sym (switch_is s.at e v) ∙ ap (stmt_at s.at) (sym is))
+pub switch_seen : (s : StmtTree) (e : Box ExprTree Global) (v : Vec Group Global) (x : ExprTree) (groups : List Group) → s.kind ≡ Switch e v → x ≡ e.value → groups ≡ v.items → switch_on s.at (expr_of x) (groups_of groups) ≡ stmt_of s
+switch_seen s e v x groups is test same = (λ i. switch_on s.at (expr_of (test i)) (groups_of (same i))) ∙ (sym (switch_is s.at e v) ∙ ap (stmt_at s.at) (sym is))
 
-pub if_seen : (s : StmtTree) (e : ExprTree) (held : Box StmtTree Global) (other : Option (Box StmtTree Global)) (y : StmtTree) → s.kind ≡ If e held other → y ≡ held.value → if_with s.at e (stmt_of y) (else_behind other) ≡ stmt_of s
-if_seen s e held other y is same = ap (λ x. if_with s.at e (stmt_of x) (else_behind other)) same ∙ (sym (if_is s.at e held other) ∙ ap (stmt_at s.at) (sym is))
+pub if_seen : (s : StmtTree) (e : Box ExprTree Global) (held : Box StmtTree Global) (other : Option (Box StmtTree Global)) (x : ExprTree) (y : StmtTree) → s.kind ≡ If e held other → x ≡ e.value → y ≡ held.value → if_with s.at x (stmt_of y) (else_behind other) ≡ stmt_of s
+if_seen s e held other x y is test same = (λ i. if_with s.at (test i) (stmt_of (same i)) (else_behind other)) ∙ (sym (if_is s.at e held other) ∙ ap (stmt_at s.at) (sym is))
 
 -- ## What stands before what follows
 

@@ -1,4 +1,4 @@
-ghost use Rattle.std.specs.Prelude.{◌≡◌, OnOk};
+ghost use Rattle.std.specs.Prelude.{◌≡◌, IfOk, OnOk};
 ghost use Rattle.c_check_bodies.specs.Numbered.{HaveNumbers, next_of};
 ghost use Rattle.c_check_declarations.specs.Agreement.{AgreesWith};
 ghost use Rattle.c_check_declarations.specs.TypedExpressionView.{typed_expression_of};
@@ -14,8 +14,8 @@ ghost use Rattle.c_rules.specs.Variables.{names_of_first, past_names};
 ghost use Rattle.c_check_scopes.specs.View.{before_of, env_of};
 ghost use Rattle.c_check_statements.specs.Two.{two_of};
 ghost use Rattle.c_syntax.specs.Tree.{there};
-ghost use Rattle.c_syntax.specs.UnitView.{first_of_head, maybe_of};
-ghost use Rattle.c_syntax.specs.View.{expr_of};
+ghost use Rattle.c_syntax.specs.UnitView.{first_of_head};
+ghost use Rattle.c_syntax.specs.View.{expr_behind, expr_of};
 ghost use Rattle.c_tree.specs.Tree.{evaluate};
 ghost use Rattle.c_tree.specs.View.{ctype_of, expr_of as tree_seen, maybe_of as maybe_seen};
 
@@ -29,6 +29,7 @@ use c_check_expressions::value;
 use c_check_scopes::{Before, Environment};
 use c_syntax::{Expr, ForFirst};
 use c_tree::{CType, TExpr, TStmt};
+use dm_base::OutOfMemory;
 use std::alloc::Global;
 
 // A condition.
@@ -68,16 +69,16 @@ fn test_of<'t>(
     env: &mut Environment<'t>,
     before: &mut Before<'t>,
     at: u32,
-    e: &'t Option<Expr>,
-) -> Result<Option<TExpr>, CheckError>
-    ensures judged { AgreesWith maybe_seen result (test_of (env_of env.old) (before_of before.old) at (maybe_of e.now)) }
-    ensures counted { OnOk result (before_of before.new ≡ after_maybe (before_of before.old) (maybe_of e.now)) }
+    e: &'t Option<Box<Expr>>,
+) -> Result<Option<Box<TExpr>>, CheckError>
+    ensures judged { AgreesWith maybe_seen result (test_of (env_of env.old) (before_of before.old) at (expr_behind e.now)) }
+    ensures counted { OnOk result (before_of before.new ≡ after_maybe (before_of before.old) (expr_behind e.now)) }
     ensures kept { OnOk result (env.new ≡ env.old) }
 {
     match e {
         Some(e) => {
             let test = condition_of(alloc, env, before, at, e)?;
-            Ok(Some(test))
+            Ok(Some(Box::new(alloc, test)?))
         }
         None => Ok(None),
     }
@@ -88,16 +89,16 @@ fn step_of<'t>(
     alloc: Global,
     env: &mut Environment<'t>,
     before: &mut Before<'t>,
-    e: &'t Option<Expr>,
-) -> Result<Option<TExpr>, CheckError>
-    ensures judged { AgreesWith maybe_seen result (step_of (env_of env.old) (before_of before.old) (maybe_of e.now)) }
-    ensures counted { OnOk result (before_of before.new ≡ after_maybe (before_of before.old) (maybe_of e.now)) }
+    e: &'t Option<Box<Expr>>,
+) -> Result<Option<Box<TExpr>>, CheckError>
+    ensures judged { AgreesWith maybe_seen result (step_of (env_of env.old) (before_of before.old) (expr_behind e.now)) }
+    ensures counted { OnOk result (before_of before.new ≡ after_maybe (before_of before.old) (expr_behind e.now)) }
     ensures kept { OnOk result (env.new ≡ env.old) }
 {
     match e {
         Some(e) => {
             let step = value_tree(alloc, env, before, e)?;
-            Ok(Some(step))
+            Ok(Some(Box::new(alloc, step)?))
         }
         None => Ok(None),
     }
@@ -109,16 +110,24 @@ pub fn tests_of<'t>(
     env: &mut Environment<'t>,
     before: &mut Before<'t>,
     at: u32,
-    test: &'t Option<Expr>,
-    step: &'t Option<Expr>,
-) -> Result<(Option<TExpr>, Option<TExpr>), CheckError>
-    ensures judged { AgreesWith two_of result (beside (test_of (env_of env.old) (before_of before.old) at (maybe_of test.now)) (step_of (env_of env.old) (after_maybe (before_of before.old) (maybe_of test.now)) (maybe_of step.now))) }
-    ensures counted { OnOk result (before_of before.new ≡ after_maybe (after_maybe (before_of before.old) (maybe_of test.now)) (maybe_of step.now)) }
+    test: &'t Option<Box<Expr>>,
+    step: &'t Option<Box<Expr>>,
+) -> Result<(Option<Box<TExpr>>, Option<Box<TExpr>>), CheckError>
+    ensures judged { AgreesWith two_of result (beside (test_of (env_of env.old) (before_of before.old) at (expr_behind test.now)) (step_of (env_of env.old) (after_maybe (before_of before.old) (expr_behind test.now)) (expr_behind step.now))) }
+    ensures counted { OnOk result (before_of before.new ≡ after_maybe (after_maybe (before_of before.old) (expr_behind test.now)) (expr_behind step.now)) }
     ensures kept { OnOk result (env.new ≡ env.old) }
 {
     let first = test_of(alloc, env, before, at, test)?;
     let second = step_of(alloc, env, before, step)?;
     Ok((first, second))
+}
+
+// An expression with this tree as a statement.
+fn expression_statement(alloc: Global, tree: TExpr) -> Result<StatementTree, OutOfMemory>
+    ensures { IfOk result (λ l. statement_tree_of l ≡ bare (evaluate (tree_seen tree))) }
+{
+    let e = Box::new(alloc, tree)?;
+    bare(alloc, TStmt::Expr(e))
 }
 
 // An expression as a statement (C99 6.8.3).
@@ -133,7 +142,7 @@ pub fn evaluated<'t>(
     ensures kept { OnOk result (env.new ≡ env.old) }
 {
     let tree = value_tree(alloc, env, before, e)?;
-    found(bare(alloc, TStmt::Expr(tree)))
+    found(expression_statement(alloc, tree))
 }
 
 // The same in the head of a `for`.
@@ -213,10 +222,10 @@ pub fn returned<'t>(
     before: &mut Before<'t>,
     returns: &CType,
     at: u32,
-    e: &'t Option<Expr>,
+    e: &'t Option<Box<Expr>>,
 ) -> Result<StatementTree, CheckError>
-    ensures judged { AgreesWith statement_tree_of result (gives (returned (env_of env.old) (before_of before.old) at (ctype_of returns.now) (maybe_of e.now)) bare) }
-    ensures counted { OnOk result (before_of before.new ≡ after_maybe (before_of before.old) (maybe_of e.now)) }
+    ensures judged { AgreesWith statement_tree_of result (gives (returned (env_of env.old) (before_of before.old) at (ctype_of returns.now) (expr_behind e.now)) bare) }
+    ensures counted { OnOk result (before_of before.new ≡ after_maybe (before_of before.old) (expr_behind e.now)) }
     ensures kept { OnOk result (env.new ≡ env.old) }
 {
     match e {

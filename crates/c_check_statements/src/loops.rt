@@ -17,6 +17,7 @@ pub fn while_loop(
 ) -> Result<StatementTree, OutOfMemory>
     ensures { IfOk result (λ l. statement_tree_of l ≡ with_tree (statement_tree_of body) (while_loop (expr_of test) (statement_tree_of body).tree)) }
 {
+    let test = Box::new(alloc, test)?;
     let (tree, variables) = body.into_parts();
     with_variables(alloc, TStmt::While { test, body: tree }, variables)
 }
@@ -29,6 +30,7 @@ pub fn do_loop(
 ) -> Result<StatementTree, OutOfMemory>
     ensures { IfOk result (λ l. statement_tree_of l ≡ with_tree (statement_tree_of body) (do_loop (statement_tree_of body).tree (expr_of test))) }
 {
+    let test = Box::new(alloc, test)?;
     let (tree, variables) = body.into_parts();
     with_variables(alloc, TStmt::Do { body: tree, test }, variables)
 }
@@ -37,8 +39,8 @@ pub fn do_loop(
 pub fn for_loop(
     alloc: Global,
     first: StatementTrees,
-    test: Option<TExpr>,
-    step: Option<TExpr>,
+    test: Option<Box<TExpr>>,
+    step: Option<Box<TExpr>>,
     body: StatementTree,
 ) -> Result<StatementTree, OutOfMemory>
     ensures { IfOk result (λ l. statement_tree_of l ≡ joined (statement_trees_of first) (statement_tree_of body) (for_loop (statement_trees_of first).tree (maybe_of test) (maybe_of step) (statement_tree_of body).tree)) }

@@ -16,8 +16,8 @@ ghost use Rattle.c_check_statements.specs.Listed.{after_item, behind_item, item_
 ghost use Rattle.c_check_statements.specs.Ruled.{after_for, for_inside, group_behind, tested};
 ghost use Rattle.c_check_statements.specs.Two.{tested_of};
 ghost use Rattle.c_syntax.specs.Tree.{block, do_loop, for_loop, switch_on, while_loop};
-ghost use Rattle.c_syntax.specs.UnitView.{first_of_head, maybe_of, stmt_of};
-ghost use Rattle.c_syntax.specs.View.{expr_of};
+ghost use Rattle.c_syntax.specs.UnitView.{first_of_head, stmt_of};
+ghost use Rattle.c_syntax.specs.View.{expr_behind, expr_of};
 ghost use Rattle.c_syntax.specs.WritesUnit.{block_items_of, groups_of, stmts_of};
 ghost use Rattle.c_tree.specs.Tree.{if_else as typed_if};
 ghost use Rattle.c_tree.specs.View.{expr_of as tree_seen};
@@ -217,13 +217,13 @@ fn for_statement<'t>(
     body: &'t Stmt,
     at: u32,
     first: &'t ForFirst,
-    test: &'t Option<Expr>,
-    step: &'t Option<Expr>,
+    test: &'t Option<Box<Expr>>,
+    step: &'t Option<Box<Expr>>,
 ) -> Result<StatementTree, CheckError>
     requires { HaveNumbers (next_of next.old) (names_of_first (first_of_head first.now) ++ names_of_stmt (stmt_of body.now)) }
-    ensures judged { AgreesWith statement_tree_of result (stmt (env_of env.old) (around_of around.now) (before_of before.old) (next_of next.old) (for_loop at (first_of_head first.now) (maybe_of test.now) (maybe_of step.now) (stmt_of body.now))) }
-    ensures counted { OnOk result (before_of before.new ≡ after_stmt (env_of env.old) (before_of before.old) (next_of next.old) (for_loop at (first_of_head first.now) (maybe_of test.now) (maybe_of step.now) (stmt_of body.now))) }
-    ensures numbered { OnOk result (next_of next.new ≡ past_names (next_of next.old) (names_of_stmt (for_loop at (first_of_head first.now) (maybe_of test.now) (maybe_of step.now) (stmt_of body.now)))) }
+    ensures judged { AgreesWith statement_tree_of result (stmt (env_of env.old) (around_of around.now) (before_of before.old) (next_of next.old) (for_loop at (first_of_head first.now) (expr_behind test.now) (expr_behind step.now) (stmt_of body.now))) }
+    ensures counted { OnOk result (before_of before.new ≡ after_stmt (env_of env.old) (before_of before.old) (next_of next.old) (for_loop at (first_of_head first.now) (expr_behind test.now) (expr_behind step.now) (stmt_of body.now))) }
+    ensures numbered { OnOk result (next_of next.new ≡ past_names (next_of next.old) (names_of_stmt (for_loop at (first_of_head first.now) (expr_behind test.now) (expr_behind step.now) (stmt_of body.now)))) }
     ensures kept { OnOk result (env.new ≡ env.old) }
 {
     let count = env.names.len();
@@ -246,12 +246,12 @@ fn for_parts<'t>(
     body: &'t Stmt,
     at: u32,
     first: &'t ForFirst,
-    test: &'t Option<Expr>,
-    step: &'t Option<Expr>,
+    test: &'t Option<Box<Expr>>,
+    step: &'t Option<Box<Expr>>,
 ) -> Result<StatementTree, CheckError>
     requires { HaveNumbers (next_of next.old) (names_of_first (first_of_head first.now) ++ names_of_stmt (stmt_of body.now)) }
-    ensures judged { AgreesWith statement_tree_of result (for_inside (env_of env.old) (around_of around.now) (before_of before.old) (next_of next.old) at (first_of_head first.now) (maybe_of test.now) (maybe_of step.now) (stmt_of body.now)) }
-    ensures counted { OnOk result (before_of before.new ≡ after_for (env_of env.old) (before_of before.old) (next_of next.old) (first_of_head first.now) (maybe_of test.now) (maybe_of step.now) (stmt_of body.now)) }
+    ensures judged { AgreesWith statement_tree_of result (for_inside (env_of env.old) (around_of around.now) (before_of before.old) (next_of next.old) at (first_of_head first.now) (expr_behind test.now) (expr_behind step.now) (stmt_of body.now)) }
+    ensures counted { OnOk result (before_of before.new ≡ after_for (env_of env.old) (before_of before.old) (next_of next.old) (first_of_head first.now) (expr_behind test.now) (expr_behind step.now) (stmt_of body.now)) }
     ensures numbered { OnOk result (next_of next.new ≡ past_names (next_of next.old) (names_of_first (first_of_head first.now) ++ names_of_stmt (stmt_of body.now))) }
     ensures kept { OnOk result (Declares env.old env.new) }
 {

@@ -19,9 +19,9 @@ use Rattle.c_syntax.specs.Grammar.{conditional_level, expression_level}
 use Rattle.c_syntax.specs.Statements.{first_nothing, first_expression, first_declaration, last_case, last_default, next_case, next_default}
 use Rattle.c_syntax.specs.Statements.{a_block, an_empty, an_evaluation, an_if, an_if_else, a_while, a_do, a_for, a_switch, a_break, a_continue, a_return}
 use Rattle.c_syntax.specs.Statements.{no_block_item, no_group, a_block_decl, a_block_stmt, last_stmt, next_stmt, a_group}
-use Rattle.c_syntax.specs.View.{expr_of}
+use Rattle.c_syntax.specs.View.{expr_behind, expr_of}
 use Rattle.c_parser.specs.declared.nodes.ForHead.{ForHead}
-use Rattle.c_syntax.specs.UnitView.{decl_of, first_of_head, maybe_of, stmt_of, group_before, labels_of}
+use Rattle.c_syntax.specs.UnitView.{decl_of, first_of_head, stmt_of, group_before, labels_of}
 use Rattle.c_syntax.specs.WritesUnit.{block_items_of, stmts_of, groups_of}
 use Rattle.c_parser_phrases.specs.declared.room.Room.{Room}
 use Rattle.c_parser_phrases.specs.Phrases.{HasRead}
@@ -37,12 +37,19 @@ use Rattle.c_parser.proofs.RoomLemmas.{IsInside, out_of, stmt_from_word}
 pub condition_of : {room : Room} {e : Expr} {t u : Token} {i j k m : List Token} → i ≡ t ∷ j → Is LEFT_PARENTHESIS t → HasRead room expression_level e j k → k ≡ u ∷ m → Is RIGHT_PARENTHESIS u → HasCondition room e i m
 condition_of q o r p c = record { left = _; right = _; inside = _; stood = q; opens = o; reads = reads_to p r.reads; closes = c; nested = r.nested }
 
+-- the same behind a box
+pub boxed_condition : {room : Room} {b e : Tree} {i j : List Token} → b ≡ e → HasCondition room (expr_of e) i j → HasCondition room (expr_of b) i j
+boxed_condition {room} {i = i} {j = j} q w = subst (λ z. HasCondition room (expr_of z) i j) (sym q) w
+
 -- an expression that may be left out, and what follows it
 pub maybe_none : {room : Room} {end : ℕ} {t : Token} {i j : List Token} → i ≡ t ∷ j → Is end t → HasMaybe room end absent i j
 maybe_none {room} {i = i} q c = record { right = _; reads = subst (λ z. ReadsMaybe room.pairs absent i z) q no_expression_stands; closes = c; nested = omega arith }
 
 pub maybe_some : {room : Room} {end : ℕ} {e : Expr} {t : Token} {i j k : List Token} → HasRead room expression_level e i j → j ≡ t ∷ k → Is end t → HasMaybe room end (there e) i k
 maybe_some r q c = record { right = _; reads = an_expression_stands (reads_to q r.reads); closes = c; nested = r.nested }
+
+pub boxed_maybe : {room : Room} {end : ℕ} {b e : Tree} {i j : List Token} → b ≡ e → HasMaybe room end (there (expr_of e)) i j → HasMaybe room end (there (expr_of b)) i j
+boxed_maybe {room} {end = end} {i = i} {j = j} q w = subst (λ z. HasMaybe room end (there (expr_of z)) i j) (sym q) w
 
 -- simple statements
 
@@ -99,7 +106,7 @@ is_do w p s q h c r v = record {
 pub head_is : {room : Room} {b h : ForHead} {i j : List Token} → b ≡ h → HasHead room h i j → HasHead room b i j
 head_is {room} {i = i} {j = j} q w = subst (λ z. HasHead room z i j) (sym q) w
 
-pub is_for : {room : Room} {at : ℕ} (h : ForHead) {s : Stmt} {t : Token} {i n o : List Token} → IsKeyword FOR t → at ≡ t.from → HasHead room h i n → HasStmt room s n o → HasNode room (for_loop at (first_of_head h.first) (maybe_of h.test) (maybe_of h.step) s) (t ∷ i) o
+pub is_for : {room : Room} {at : ℕ} (h : ForHead) {s : Stmt} {t : Token} {i n o : List Token} → IsKeyword FOR t → at ≡ t.from → HasHead room h i n → HasStmt room s n o → HasNode room (for_loop at (first_of_head h.first) (expr_behind h.test) (expr_behind h.step) s) (t ∷ i) o
 is_for h w p f s = record {
   reads = rw (p, f.stood) (a_for w f.opens f.first.reads f.test.reads f.test.closes f.step.reads f.step.closes s.reads);
   nested = omega (arith, f.first.nested, f.test.nested, f.step.nested, s.nested);
@@ -120,6 +127,9 @@ first_none q h = record { reads = rw q (first_nothing h); nested = omega arith }
 
 pub first_is : {room : Room} {e : Expr} {t : Token} {i j k : List Token} → HasRead room expression_level e i j → j ≡ t ∷ k → Is SEMICOLON t → HasFirst room (first_expr e) i k
 first_is r q h = record { reads = first_expression (reads_to q r.reads) h; nested = r.nested }
+
+pub boxed_first : {room : Room} {b e : Tree} {i j : List Token} → b ≡ e → HasFirst room (first_expr (expr_of e)) i j → HasFirst room (first_expr (expr_of b)) i j
+boxed_first {room} {i = i} {j = j} q w = subst (λ z. HasFirst room (first_expr (expr_of z)) i j) (sym q) w
 
 pub first_declares : {room : Room} {x : Decl} {i j : List Token} → HasPlainDecl room x i j → HasFirst room (first_decl x) i j
 first_declares d = record { reads = first_declaration d.reads d.plain; nested = d.nested }

@@ -18,7 +18,8 @@ use Rattle.c_syntax.specs.Tokens.{Is}
 use Rattle.c_syntax.specs.Grammar.{expression_level, Reads}
 use Rattle.c_syntax.specs.Statements.{ReadsMaybe, ReadsMaybeInit, ReadsParts, ReadsDecl, IsPlainDecl, ReadsFirst, ReadsLabels, ReadsStmt, IsClosed, ReadsBlockItems, ReadsStmts, ReadsGroups, ReadsDeclarators, ReadsMembers, ReadsEnumeratorValue, ReadsEnumerators, ReadsItem, ReadsItems}
 use Rattle.c_syntax.specs.Limits.{height, height_of_maybe, height_of_maybe_init, height_of_parts, height_of_decl, height_of_first, height_of_labels, height_of_stmt, height_of_block_items, height_of_stmts, height_of_groups, height_of_declarators, height_of_members, height_of_enumerators, height_of_item, height_of_unit}
-use Rattle.c_syntax.specs.UnitView.{first_of_head, maybe_of, parts_of, labels_of, declarators_of, members_of, enumerators_of, items_of}
+use Rattle.c_syntax.specs.View.{expr_behind}
+use Rattle.c_syntax.specs.UnitView.{first_of_head, parts_of, labels_of, declarators_of, members_of, enumerators_of, items_of}
 use Rattle.c_syntax.specs.WritesUnit.{block_items_of, stmts_of, groups_of}
 use Rattle.c_parser_phrases.specs.declared.room.Room.{Room}
 use Rattle.c_parser_phrases.specs.Standing.{IsAtKeyword}
@@ -78,8 +79,8 @@ pub record HasHead (room : Room) (h : ForHead) (i j : List Token) : Type 0 where
   pub stood : i ≡ left ∷ inside
   pub opens : Is LEFT_PARENTHESIS left
   pub first : HasFirst room (first_of_head h.first) inside after_first
-  pub test : HasMaybe room SEMICOLON (maybe_of h.test) after_first after_test
-  pub step : HasMaybe room RIGHT_PARENTHESIS (maybe_of h.step) after_test j
+  pub test : HasMaybe room SEMICOLON (expr_behind h.test) after_first after_test
+  pub step : HasMaybe room RIGHT_PARENTHESIS (expr_behind h.step) after_test j
 
 pub record AreLabels (room : Room) (xs : List Label) (i j : List Token) : Type 0 where
   pub reads : ReadsLabels room.pairs (labels_of xs) i j

@@ -1,9 +1,9 @@
 // The nodes of statements.
 
 ghost use Rattle.std.specs.Prelude.{◌≡◌};
-ghost use Rattle.c_syntax.specs.Tree.{block, only_if, if_else, while_loop, do_loop, for_loop, switch_on, more_groups, Groups};
-ghost use Rattle.c_syntax.specs.View.{expr_of};
-ghost use Rattle.c_syntax.specs.UnitView.{stmt_at, stmt_of, first_of_head, maybe_of, group_before, labels_of};
+ghost use Rattle.c_syntax.specs.Tree.{block, evaluate, only_if, if_else, while_loop, do_loop, for_loop, switch_on, more_groups, Groups};
+ghost use Rattle.c_syntax.specs.View.{expr_behind, expr_of};
+ghost use Rattle.c_syntax.specs.UnitView.{stmt_at, stmt_of, first_of_head, group_before, labels_of};
 ghost use Rattle.c_syntax.specs.WritesUnit.{block_items_of, groups_of, stmts_of};
 ghost use Rattle.c_syntax.specs.declared.tree.BlockItem.TheVariants.{Statement};
 ghost use Rattle.c_parser.specs.Making.{Makes, Adds};
@@ -26,9 +26,22 @@ pub fn block_node(alloc: Global, at: u32, items: Vec<BlockItem>) -> Result<Box<S
     stmt_node(alloc, at, StmtKind::Block(items))
 }
 
+/// An expression as a statement.
+pub fn evaluation_node(alloc: Global, at: u32, whole: Expr) -> Result<Box<Stmt>, PhraseError>
+    ensures { Makes result (evaluate at (expr_of whole)) }
+{
+    let inside = Box::new(alloc, whole)?;
+    stmt_node(alloc, at, StmtKind::Expr(inside))
+}
+
 /// `if` without `else`.
-pub fn if_node(alloc: Global, at: u32, test: Expr, yes: Box<Stmt>) -> Result<Box<Stmt>, PhraseError>
-    ensures { Makes result (only_if at (expr_of test) (stmt_of yes.value)) }
+pub fn if_node(
+    alloc: Global,
+    at: u32,
+    test: Box<Expr>,
+    yes: Box<Stmt>,
+) -> Result<Box<Stmt>, PhraseError>
+    ensures { Makes result (only_if at (expr_of test.value) (stmt_of yes.value)) }
 {
     stmt_node(
         alloc,
@@ -45,11 +58,11 @@ pub fn if_node(alloc: Global, at: u32, test: Expr, yes: Box<Stmt>) -> Result<Box
 pub fn if_else_node(
     alloc: Global,
     at: u32,
-    test: Expr,
+    test: Box<Expr>,
     yes: Box<Stmt>,
     no: Box<Stmt>,
 ) -> Result<Box<Stmt>, PhraseError>
-    ensures { Makes result (if_else at (expr_of test) (stmt_of yes.value) (stmt_of no.value)) }
+    ensures { Makes result (if_else at (expr_of test.value) (stmt_of yes.value) (stmt_of no.value)) }
 {
     stmt_node(
         alloc,
@@ -66,10 +79,10 @@ pub fn if_else_node(
 pub fn while_node(
     alloc: Global,
     at: u32,
-    test: Expr,
+    test: Box<Expr>,
     body: Box<Stmt>,
 ) -> Result<Box<Stmt>, PhraseError>
-    ensures { Makes result (while_loop at (expr_of test) (stmt_of body.value)) }
+    ensures { Makes result (while_loop at (expr_of test.value) (stmt_of body.value)) }
 {
     stmt_node(alloc, at, StmtKind::While { test, body })
 }
@@ -79,9 +92,9 @@ pub fn do_node(
     alloc: Global,
     at: u32,
     body: Box<Stmt>,
-    test: Expr,
+    test: Box<Expr>,
 ) -> Result<Box<Stmt>, PhraseError>
-    ensures { Makes result (do_loop at (stmt_of body.value) (expr_of test)) }
+    ensures { Makes result (do_loop at (stmt_of body.value) (expr_of test.value)) }
 {
     stmt_node(alloc, at, StmtKind::Do { body, test })
 }
@@ -90,8 +103,8 @@ pub fn do_node(
 #[derive(Drop)]
 pub struct ForHead {
     pub first: ForFirst,
-    pub test: Option<Expr>,
-    pub step: Option<Expr>,
+    pub test: Option<Box<Expr>>,
+    pub step: Option<Box<Expr>>,
 }
 
 /// `for`
@@ -101,7 +114,7 @@ pub fn for_node(
     head: Box<ForHead>,
     body: Box<Stmt>,
 ) -> Result<Box<Stmt>, PhraseError>
-    ensures { Makes result (for_loop at (first_of_head head.value.first) (maybe_of head.value.test) (maybe_of head.value.step) (stmt_of body.value)) }
+    ensures { Makes result (for_loop at (first_of_head head.value.first) (expr_behind head.value.test) (expr_behind head.value.step) (stmt_of body.value)) }
 {
     let head = Box::into_inner(head);
     stmt_node(
@@ -120,10 +133,10 @@ pub fn for_node(
 pub fn switch_node(
     alloc: Global,
     at: u32,
-    on: Expr,
+    on: Box<Expr>,
     groups: Vec<Group>,
 ) -> Result<Box<Stmt>, PhraseError>
-    ensures { Makes result (switch_on at (expr_of on) (groups_of groups.items)) }
+    ensures { Makes result (switch_on at (expr_of on.value) (groups_of groups.items)) }
 {
     stmt_node(alloc, at, StmtKind::Switch { on, groups })
 }

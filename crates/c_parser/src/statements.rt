@@ -21,8 +21,8 @@ ghost use Rattle.c_parser.specs.Nesting.{Passes, OpensAs, OpensAfter, OpensInHea
 use crate::declarations::declaration;
 use crate::labels::{is_at_label, labels};
 use crate::nodes::{
-    ForHead, add_block_statement, add_statement, block_node, do_node, for_node, group_node,
-    if_else_node, if_node, stmt_node, switch_node, while_node,
+    ForHead, add_block_statement, add_statement, block_node, do_node, evaluation_node, for_node,
+    group_node, if_else_node, if_node, stmt_node, switch_node, while_node,
 };
 use crate::parts::{condition, expression_before};
 use crate::starts::{Compound, compound_start, no_room, sure_to_be_deep};
@@ -254,7 +254,8 @@ fn for_first(cursor: &mut Cursor<'_>, alloc: Global, room: Room) -> Result<ForFi
     if !cursor.take(SEMICOLON) {
         return Err(PhraseError::Syntax);
     }
-    Ok(ForFirst::Expr(first))
+    let boxed = Box::new(alloc, first)?;
+    Ok(ForFirst::Expr(boxed))
 }
 
 // Reads what follows `switch`.
@@ -357,7 +358,7 @@ fn simple(cursor: &mut Cursor<'_>, alloc: Global, room: Room) -> Result<Box<Stmt
     if !cursor.take(SEMICOLON) {
         return Err(PhraseError::Syntax);
     }
-    stmt_node(alloc, at, StmtKind::Expr(whole))
+    evaluation_node(alloc, at, whole)
 }
 
 // Reads a declaration, and adds it to the items.

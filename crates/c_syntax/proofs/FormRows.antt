@@ -28,5 +28,5 @@ list_is at v = ap (list at) (inits_in v)
 pub block_is : (at : ℕ) (v : Vec BlockItem Global) → stmt_at at (Block v) ≡ block at (block_items_of v.items)
 block_is at v = ap (block at) (block_items_in v)
 
-pub switch_is : (at : ℕ) (e : ExprTree) (v : Vec Group Global) → stmt_at at (Switch e v) ≡ switch_on at (expr_of e) (groups_of v.items)
-switch_is at e v = ap (switch_on at (expr_of e)) (groups_in e v)
+pub switch_is : (at : ℕ) (e : Box ExprTree Global) (v : Vec Group Global) → stmt_at at (Switch e v) ≡ switch_on at (expr_of e.value) (groups_of v.items)
+switch_is at e v = ap (switch_on at (expr_of e.value)) (groups_in e v)

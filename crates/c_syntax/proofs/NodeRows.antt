@@ -50,7 +50,7 @@ function_is at d v = ap (λ x. function at x (params_of_row (params_row_in (Func
 
 -- ## Statements
 
-pub if_is : (at : ℕ) (e : ExprTree) (s : Box StmtTree Global) (o : Option (Box StmtTree Global)) → stmt_at at (If e s o) ≡ if_with at e (stmt_of s.value) (else_behind o)
+pub if_is : (at : ℕ) (e : Box ExprTree Global) (s : Box StmtTree Global) (o : Option (Box StmtTree Global)) → stmt_at at (If e s o) ≡ if_with at e.value (stmt_of s.value) (else_behind o)
 if_is at e s None = refl
 if_is at e s (Some b) = refl
 

@@ -1,6 +1,6 @@
 -- Lists of trees that an initialiser or a statement holds.
 use Rattle.std.proofs.Common.{◌≡◌, ℕ, List, ◌∷◌, Vec, Global, refl, ap, sym, ◌∙◌, OnOk}
-use Rattle.std.specs.Prelude.{Result}
+use Rattle.std.specs.Prelude.{Box, Result}
 use mathlib.Core.Former.{Count}
 use Rattle.c_lexer.specs.declared.token.TokenKind.TheVariants.{Punct}
 use Rattle.c_lexer.specs.declared.punctuator.TheConstants.{LEFT_BRACE, RIGHT_BRACE}
@@ -75,19 +75,19 @@ abbrev pub groups_row_in : StmtKind → (n : Count) × Row_of-Group n
 groups_row_in (Switch' e shape row) = (_, row)
 groups_row_in _ = (_, end_of-Group)
 
-pub groups_in : (e : Tree) (v : Vec Group Global) → groups_of_row (groups_row_in (Switch e v)).1 ≡ groups_of v.items
+pub groups_in : (e : Box Tree Global) (v : Vec Group Global) → groups_of_row (groups_row_in (Switch e v)).1 ≡ groups_of v.items
 groups_in e v = groups_row (groups_row_in (Switch e v)).0 (groups_row_in (Switch e v)).1 ∙ ap groups_of (items_hidden-the_row-Group-1 v)
 
 -- a switch is its head, and the groups in braces
 pub switch_last :
-    {T E : Type 0} (r : Result T E) (a b : List ℕ) (at : ℕ) (e : Tree) (v : Vec Group Global) (xs : List Group) → xs ≡ v.items
-    → OnOk r (Writes a b (λ k. worded_kinds SWITCH (expr_of e) (Punct LEFT_BRACE ∷ groups_kinds (groups_of xs) (Punct RIGHT_BRACE ∷ k))))
+    {T E : Type 0} (r : Result T E) (a b : List ℕ) (at : ℕ) (e : Box Tree Global) (v : Vec Group Global) (xs : List Group) → xs ≡ v.items
+    → OnOk r (Writes a b (λ k. worded_kinds SWITCH (expr_of e.value) (Punct LEFT_BRACE ∷ groups_kinds (groups_of xs) (Punct RIGHT_BRACE ∷ k))))
     → OnOk r (Writes a b (stmt_kinds (stmt_at at (Switch e v))))
 switch_last r a b at e v xs is =
     on_ok_as r a b
-    (λ k. worded_kinds SWITCH (expr_of e) (Punct LEFT_BRACE ∷ groups_kinds (groups_of xs) (Punct RIGHT_BRACE ∷ k)))
+    (λ k. worded_kinds SWITCH (expr_of e.value) (Punct LEFT_BRACE ∷ groups_kinds (groups_of xs) (Punct RIGHT_BRACE ∷ k)))
     (stmt_kinds (stmt_at at (Switch e v)))
-    (λ k. ap (λ x. worded_kinds SWITCH (expr_of e) (Punct LEFT_BRACE ∷ groups_kinds x (Punct RIGHT_BRACE ∷ k))) (ap groups_of is ∙ sym (groups_in e v)))
+    (λ k. ap (λ x. worded_kinds SWITCH (expr_of e.value) (Punct LEFT_BRACE ∷ groups_kinds x (Punct RIGHT_BRACE ∷ k))) (ap groups_of is ∙ sym (groups_in e v)))
 
 pub stmts_row : (n : _) (row : Row_of-Stmt n) → stmts_of_row row ≡ stmts_of (items-the_row-Stmt n row)
 stmts_row n end_of-Stmt = refl

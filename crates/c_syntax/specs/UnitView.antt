@@ -24,7 +24,7 @@ use Rattle.c_syntax.specs.declared.tree.Enumerator.{Enumerator}
 use Rattle.c_syntax.specs.declared.tree.Item.{Item as ItemTree}
 use Rattle.c_syntax.specs.declared.tree.ItemKind.{ItemKind}
 use Rattle.c_syntax.specs.declared.tree.ItemKind.TheVariants as o
-use Rattle.c_syntax.specs.View.{ident_of, spec_of, expr_of, declarator_of}
+use Rattle.c_syntax.specs.View.{ident_of, spec_of, expr_of, expr_behind, declarator_of}
 use Rattle.c_syntax.specs.Tree.{Storage, no_storage, static, extern, Maybe, absent, there}
 use Rattle.c_syntax.specs.Tree.{Init, one, list, Inits, no_inits, more_inits, MaybeInit, no_init, an_init, Parts, no_parts, more_parts, Decl, decl}
 use Rattle.c_syntax.specs.Tree.{First, first_absent, first_expr, first_decl, Labels, no_labels, case_label, default_label}
@@ -65,7 +65,7 @@ decl_of x = decl x.at (storage_of x.storage) (spec_of x.spec) (parts_of x.parts.
 
 abbrev pub first_of_head : ForFirst → First
 first_of_head f.Absent = first_absent
-first_of_head (f.Expr e) = first_expr (expr_of e)
+first_of_head (f.Expr e) = first_expr (expr_of e.value)
 first_of_head (f.Declaration x) = first_decl (decl_of x)
 
 abbrev pub label_before : ℕ → LabelKind → Labels → Labels
@@ -84,15 +84,15 @@ abbrev mutual
   pub stmt_at : ℕ → StmtKind → Stmt
   stmt_at at (Block' shape row) = block at (block_items_of_row row)
   stmt_at at Empty = empty at
-  stmt_at at (Evaluated e) = evaluate at (expr_of e)
-  stmt_at at (If' e p a1 k1 held) = if_with at e (stmt_at a1 k1) (else_of held)
-  stmt_at at (While' e p a1 k1) = while_loop at (expr_of e) (stmt_at a1 k1)
-  stmt_at at (Do' p a1 k1 e) = do_loop at (stmt_at a1 k1) (expr_of e)
-  stmt_at at (For' first test step p a1 k1) = for_loop at (first_of_head first) (maybe_of test) (maybe_of step) (stmt_at a1 k1)
-  stmt_at at (Switch' e shape row) = switch_on at (expr_of e) (groups_of_row row)
+  stmt_at at (Evaluated e) = evaluate at (expr_of e.value)
+  stmt_at at (If' e p a1 k1 held) = if_with at e.value (stmt_at a1 k1) (else_of held)
+  stmt_at at (While' e p a1 k1) = while_loop at (expr_of e.value) (stmt_at a1 k1)
+  stmt_at at (Do' p a1 k1 e) = do_loop at (stmt_at a1 k1) (expr_of e.value)
+  stmt_at at (For' first test step p a1 k1) = for_loop at (first_of_head first) (expr_behind test) (expr_behind step) (stmt_at a1 k1)
+  stmt_at at (Switch' e shape row) = switch_on at (expr_of e.value) (groups_of_row row)
   stmt_at at Break = break_off at
   stmt_at at Continue = continue_on at
-  stmt_at at (Return e) = return_from at (maybe_of e)
+  stmt_at at (Return e) = return_from at (expr_behind e)
 
   pub else_of : Held-StmtKind-If-2 → Option Stmt
   else_of None' = None

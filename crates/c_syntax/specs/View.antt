@@ -1,5 +1,6 @@
 -- The terms that the trees of Rust are seen as.
-use Rattle.std.specs.Prelude.{ℕ}
+use Rattle.std.specs.Prelude.{ℕ, Option, Some, None, Box}
+use Rattle.std.specs.Global.{Global}
 use Rattle.c_syntax.specs.declared.tree.Ident.{Ident as Named}
 use Rattle.c_syntax.specs.declared.tree.Spec.{Spec as Specified}
 use Rattle.c_syntax.specs.declared.tree.Spec.TheVariants as s
@@ -88,6 +89,10 @@ abbrev mutual
 
 abbrev pub expr_of : Tree → Expr
 expr_of e = expr_at e.at e.kind
+
+abbrev pub expr_behind : Option (Box Tree Global) → Maybe
+expr_behind None = absent
+expr_behind (Some b) = there (expr_of b.value)
 
 abbrev pub declarator_of : DeclaratorTree → Declarator
 declarator_of e = declarator_at e.at e.kind

@@ -7,10 +7,11 @@ use Rattle.c_lexer.specs.declared.punctuator.TheConstants.{COMMA}
 use Rattle.c_syntax.specs.declared.tree.Expr.{Expr as Tree}
 use Rattle.c_syntax.specs.declared.tree.Declarator.{Declarator as DeclaratorTree}
 use Rattle.c_syntax.specs.declared.tree.Param.{Param as ParamTree}
-use Rattle.c_syntax.specs.Tree.{Spec, Exprs, no_exprs, more_exprs, Maybe, absent, there, Declarator, nothing, Params, no_params, more_params}
+use Rattle.c_syntax.specs.Tree.{Spec, Exprs, no_exprs, more_exprs, Declarator, nothing, Params, no_params, more_params}
 use Rattle.c_syntax.specs.View.{expr_of, declarator_of, param_before}
 use Rattle.c_syntax.specs.Print.{Kinds, spec_kinds, declarator_kinds, wrapped, is_direct, list_kinds, next_kinds, next_params}
 use Rattle.c_syntax.specs.Text.{kinds_text}
+pub use Rattle.c_syntax.specs.View.{expr_behind}
 
 -- After the text `before` the tokens of f were to come, and after the text `after` those of g are to come: whatever
 -- follows, the whole text is the same.
@@ -50,10 +51,6 @@ declarator_in (Some e) = declarator_of e
 abbrev pub declarator_behind : Option (Box DeclaratorTree Global) → Declarator
 declarator_behind None = nothing
 declarator_behind (Some b) = declarator_of b.value
-
-abbrev pub expr_behind : Option (Box Tree Global) → Maybe
-expr_behind None = absent
-expr_behind (Some b) = there (expr_of b.value)
 
 -- specifiers and the declarator after them
 abbrev pub typed_kinds : Spec → Declarator → Kinds → Kinds

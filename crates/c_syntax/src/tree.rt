@@ -275,7 +275,7 @@ pub enum ForFirst {
     /// Nothing.
     Absent,
     /// An expression.
-    Expr(Expr),
+    Expr(Box<Expr>),
     /// A declaration.
     Declaration(Decl),
 }
@@ -323,11 +323,11 @@ pub enum StmtKind {
     /// `;` alone (6.8.3).
     Empty,
     /// An expression (6.8.3).
-    Expr(Expr),
+    Expr(Box<Expr>),
     /// `if`, perhaps with `else` (6.8.4.1).
     If {
         /// The condition.
-        test: Expr,
+        test: Box<Expr>,
         /// What is done where it holds.
         yes: Box<Stmt>,
         /// What is done where it doesn't.
@@ -336,7 +336,7 @@ pub enum StmtKind {
     /// `while` (6.8.5.1).
     While {
         /// The condition.
-        test: Expr,
+        test: Box<Expr>,
         /// The body.
         body: Box<Stmt>,
     },
@@ -345,23 +345,23 @@ pub enum StmtKind {
         /// The body.
         body: Box<Stmt>,
         /// The condition.
-        test: Expr,
+        test: Box<Expr>,
     },
     /// `for` (6.8.5.3).
     For {
         /// What is done first.
         first: ForFirst,
         /// The condition.
-        test: Option<Expr>,
+        test: Option<Box<Expr>>,
         /// What is done after each turn.
-        step: Option<Expr>,
+        step: Option<Box<Expr>>,
         /// The body.
         body: Box<Stmt>,
     },
     /// `switch` (6.8.4.2).
     Switch {
         /// What is compared with the labels.
-        on: Expr,
+        on: Box<Expr>,
         /// Labels and the statements after them.
         groups: Vec<Group>,
     },
@@ -370,7 +370,7 @@ pub enum StmtKind {
     /// `continue` (6.8.6.2).
     Continue,
     /// `return` (6.8.6.4).
-    Return(Option<Expr>),
+    Return(Option<Box<Expr>>),
 }
 
 /// What stands in a block.

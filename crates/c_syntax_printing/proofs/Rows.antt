@@ -65,13 +65,13 @@ block_is at v xs is k = ap (λ x. Punct LEFT_BRACE ∷ block_items_kinds x (Punc
 
 -- a switch is its head, and the groups in braces
 pub switch_is :
-    (at : ℕ) (e : Tree) (v : Vec Group Global) (xs : List Group) → xs ≡ v.items → (k : Kinds)
-    → worded_kinds SWITCH (expr_of e) (Punct LEFT_BRACE ∷ groups_kinds (groups_of xs) (Punct RIGHT_BRACE ∷ k)) ≡ stmt_kinds (stmt_at at (Switch e v)) k
-switch_is at e v xs is k = ap (λ x. worded_kinds SWITCH (expr_of e) (Punct LEFT_BRACE ∷ groups_kinds x (Punct RIGHT_BRACE ∷ k))) (ap groups_of is ∙ sym (groups_in e v))
+    (at : ℕ) (e : Box Tree Global) (v : Vec Group Global) (xs : List Group) → xs ≡ v.items → (k : Kinds)
+    → worded_kinds SWITCH (expr_of e.value) (Punct LEFT_BRACE ∷ groups_kinds (groups_of xs) (Punct RIGHT_BRACE ∷ k)) ≡ stmt_kinds (stmt_at at (Switch e v)) k
+switch_is at e v xs is k = ap (λ x. worded_kinds SWITCH (expr_of e.value) (Punct LEFT_BRACE ∷ groups_kinds x (Punct RIGHT_BRACE ∷ k))) (ap groups_of is ∙ sym (groups_in e v))
 
 -- an if is its head, its statement, and the else where one stands
 pub if_is :
-    (at : ℕ) (e : Tree) (s : Box StmtTree Global) (no : Option (Box StmtTree Global)) (k : Kinds)
-    → worded_kinds IF (expr_of e) (stmt_kinds (stmt_of s.value) (else_kinds (else_behind no) k)) ≡ stmt_kinds (stmt_at at (If e s no)) k
+    (at : ℕ) (e : Box Tree Global) (s : Box StmtTree Global) (no : Option (Box StmtTree Global)) (k : Kinds)
+    → worded_kinds IF (expr_of e.value) (stmt_kinds (stmt_of s.value) (else_kinds (else_behind no) k)) ≡ stmt_kinds (stmt_at at (If e s no)) k
 if_is at e s None k = refl
 if_is at e s (Some b) k = refl

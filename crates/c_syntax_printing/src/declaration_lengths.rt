@@ -1,5 +1,5 @@
-ghost use Rattle.c_syntax.specs.UnitView.{storage_of, init_of, parts_of, maybe_init_of, decl_of, maybe_of};
-ghost use Rattle.c_syntax.specs.View.{declarator_of};
+ghost use Rattle.c_syntax.specs.UnitView.{storage_of, init_of, parts_of, maybe_init_of, decl_of};
+ghost use Rattle.c_syntax.specs.View.{declarator_of, expr_behind};
 ghost use Rattle.c_syntax.specs.Print.{storage_kinds, init_kinds, inits_kinds, part_kinds, parts_kinds, decl_kinds, maybe_kinds};
 ghost use Rattle.c_syntax_printing.specs.Counted.{Counts};
 ghost use Rattle.c_syntax.specs.WritesUnit.{inits_of};
@@ -22,8 +22,8 @@ pub fn count_storage(total: usize, storage: Storage) -> usize
 }
 
 // Counts the expression, where one stands.
-pub fn count_maybe(total: usize, e: &Option<Expr>) -> usize
-    ensures { Counts total (maybe_kinds (maybe_of e.now)) result }
+pub fn count_maybe(total: usize, e: &Option<Box<Expr>>) -> usize
+    ensures { Counts total (maybe_kinds (expr_behind e.now)) result }
 {
     match e {
         None => total,

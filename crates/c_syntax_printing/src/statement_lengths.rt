@@ -1,7 +1,7 @@
 ghost use Rattle.std.specs.Prelude.{◌<◌};
-ghost use Rattle.c_syntax.specs.UnitView.{first_of_head, maybe_of, labels_of, stmt_of, block_item_before, group_before};
+ghost use Rattle.c_syntax.specs.UnitView.{first_of_head, labels_of, stmt_of, block_item_before, group_before};
 ghost use Rattle.c_syntax.specs.Tree.{no_block_items, no_groups};
-ghost use Rattle.c_syntax.specs.View.{expr_of};
+ghost use Rattle.c_syntax.specs.View.{expr_behind, expr_of};
 ghost use Rattle.c_syntax.specs.Print.{first_kinds, labels_kinds, stmt_kinds, block_items_kinds, stmts_kinds, groups_kinds};
 ghost use Rattle.c_syntax_printing.specs.Counted.{Counts};
 ghost use Rattle.c_syntax.specs.WritesUnit.{block_items_of, stmts_of, groups_of, else_behind, else_kinds, for_kinds, worded_kinds, jump_kinds, return_kinds, label_kinds};
@@ -30,8 +30,13 @@ fn count_first(total: usize, first: &ForFirst) -> usize
 }
 
 // Counts the head of a `for`.
-fn count_for_head(total: usize, first: &ForFirst, test: &Option<Expr>, step: &Option<Expr>) -> usize
-    ensures { Counts total (for_kinds (first_of_head first.now) (maybe_of test.now) (maybe_of step.now)) result }
+fn count_for_head(
+    total: usize,
+    first: &ForFirst,
+    test: &Option<Box<Expr>>,
+    step: &Option<Box<Expr>>,
+) -> usize
+    ensures { Counts total (for_kinds (first_of_head first.now) (expr_behind test.now) (expr_behind step.now)) result }
 {
     let total = count_keyword(total, FOR);
     let total = count_punctuator(total, LEFT_PARENTHESIS);
@@ -63,8 +68,8 @@ fn count_jump(total: usize, keyword: u8) -> usize
 }
 
 // Counts a `return`.
-fn count_return(total: usize, e: &Option<Expr>) -> usize
-    ensures { Counts total (return_kinds (maybe_of e.now)) result }
+fn count_return(total: usize, e: &Option<Box<Expr>>) -> usize
+    ensures { Counts total (return_kinds (expr_behind e.now)) result }
 {
     let total = count_keyword(total, RETURN);
     let total = count_maybe(total, e);

@@ -65,7 +65,7 @@ pub block_is : (v : Vec TStmt Global) → stmt_of (Block v) ≡ block (stmts_of 
 block_is v = ap block (stmts_in v)
 
 -- the head of a for
-pub for_is : (v : Vec TStmt Global) (test step : Option TExpr) (s : Box TStmt Global) → stmt_of (For v test step s) ≡ for_loop (stmts_of v.items) (maybe_of test) (maybe_of step) (stmt_of s.value)
+pub for_is : (v : Vec TStmt Global) (test step : Option (Box TExpr Global)) (s : Box TStmt Global) → stmt_of (For v test step s) ≡ for_loop (stmts_of v.items) (maybe_of test) (maybe_of step) (stmt_of s.value)
 for_is v test step s = ap (λ first. for_loop first (maybe_of test) (maybe_of step) (stmt_of s.value)) (stmts_in v)
 
 same_groups : (labels : List TLabel) (x y : Stmts) (u v : Groups) → x ≡ y → u ≡ v → more_groups labels x u ≡ more_groups labels y v
@@ -81,6 +81,6 @@ group_row_in (Switch' e shape row) = (_, row)
 group_row_in _ = (_, end_of-TGroup)
 
 -- the groups of a switch
-pub switch_is : (e : TExpr) (v : Vec TGroup Global) → stmt_of (Switch e v) ≡ switch_on (expr_of e) (groups_of v.items)
+pub switch_is : (e : Box TExpr Global) (v : Vec TGroup Global) → stmt_of (Switch e v) ≡ switch_on (expr_of e.value) (groups_of v.items)
 switch_is e v =
-    ap (switch_on (expr_of e)) (groups_row (group_row_in (Switch e v)).0 (group_row_in (Switch e v)).1 ∙ ap groups_of (items_hidden-the_row-TGroup-1 v))
+    ap (switch_on (expr_of e.value)) (groups_row (group_row_in (Switch e v)).0 (group_row_in (Switch e v)).1 ∙ ap groups_of (items_hidden-the_row-TGroup-1 v))

@@ -1,5 +1,6 @@
 -- The terms that typed trees of Rust are seen as.
-use Rattle.std.specs.Prelude.{ℕ, List, [], ◌∷◌, map, Option, Some, None}
+use Rattle.std.specs.Prelude.{ℕ, List, [], ◌∷◌, map, Option, Some, None, Box}
+use Rattle.std.specs.Global.{Global}
 use Rattle.c_tree.specs.declared.tree.CType.{CType as TypeTree, Void, Int, Pointer', Array', Struct, Function', Row_of-CType, end_of-CType, more_of-CType}
 use Rattle.c_tree.specs.declared.tree.TExpr.{TExpr}
 use Rattle.c_tree.specs.declared.tree.TExprKind.{TExprKind, Const, StringPlace, Variable, Deref', Load', AddressOf', Decay', Discard', Field', Unary', Convert', Arith', Compare', PointerAdd', PointerDiff', And', Or', Assign', Update', Cond', Comma', Call', CallThrough', Row_of-TExpr, end_of-TExpr, more_of-TExpr}
@@ -65,30 +66,30 @@ abbrev mutual
 abbrev pub expr_of : TExpr → Expr
 expr_of e = expr_with (ctype_of e.ctype) e.kind
 
-abbrev pub maybe_of : Option TExpr → Maybe
+abbrev pub maybe_of : Option (Box TExpr Global) → Maybe
 maybe_of None = absent
-maybe_of (Some e) = there (expr_of e)
+maybe_of (Some e) = there (expr_of e.value)
 
 abbrev pub inits_of : List TInit → Inits
 inits_of [] = no_inits
 inits_of (x ∷ xs) = more_inits x.cell (expr_of x.value) (inits_of xs)
 
 -- `return` without or with a value
-abbrev pub return_of : Option TExpr → Stmt
+abbrev pub return_of : Option (Box TExpr Global) → Stmt
 return_of None = return_void
-return_of (Some e) = return_value (expr_of e)
+return_of (Some e) = return_value (expr_of e.value)
 
 abbrev mutual
   pub stmt_of : TStmt → Stmt
   stmt_of (Block' shape row) = block (stmts_of_row row)
   stmt_of Empty = empty
-  stmt_of (Evaluated e) = evaluate (expr_of e)
+  stmt_of (Evaluated e) = evaluate (expr_of e.value)
   stmt_of (Declare x is) = declare x (inits_of is.items)
-  stmt_of (If' e p s held) = if_else (expr_of e) (stmt_of s) (else_of held)
-  stmt_of (While' e p s) = while_loop (expr_of e) (stmt_of s)
-  stmt_of (Do' p s e) = do_loop (stmt_of s) (expr_of e)
+  stmt_of (If' e p s held) = if_else (expr_of e.value) (stmt_of s) (else_of held)
+  stmt_of (While' e p s) = while_loop (expr_of e.value) (stmt_of s)
+  stmt_of (Do' p s e) = do_loop (stmt_of s) (expr_of e.value)
   stmt_of (For' shape row test step p s) = for_loop (stmts_of_row row) (maybe_of test) (maybe_of step) (stmt_of s)
-  stmt_of (Switch' e shape row) = switch_on (expr_of e) (groups_of_row row)
+  stmt_of (Switch' e shape row) = switch_on (expr_of e.value) (groups_of_row row)
   stmt_of Break = break_off
   stmt_of Continue = continue_on
   stmt_of (Return e) = return_of e

@@ -174,7 +174,7 @@ pub enum TStmt {
     /// `;` alone (6.8.3).
     Empty,
     /// An expression (6.8.3).
-    Expr(TExpr),
+    Expr(Box<TExpr>),
     /// A variable gets new cells, and then each of these gets its value, in order (6.7.8).
     Declare {
         /// The number of the variable in its function.
@@ -185,7 +185,7 @@ pub enum TStmt {
     /// `if`, perhaps with `else` (6.8.4.1).
     If {
         /// The condition.
-        test: TExpr,
+        test: Box<TExpr>,
         /// What is done where it holds.
         yes: Box<TStmt>,
         /// What is done where it doesn't.
@@ -194,7 +194,7 @@ pub enum TStmt {
     /// `while` (6.8.5.1).
     While {
         /// The condition.
-        test: TExpr,
+        test: Box<TExpr>,
         /// The body.
         body: Box<TStmt>,
     },
@@ -203,23 +203,23 @@ pub enum TStmt {
         /// The body.
         body: Box<TStmt>,
         /// The condition.
-        test: TExpr,
+        test: Box<TExpr>,
     },
     /// `for` (6.8.5.3); the variables that are declared in its head end with it.
     For {
         /// What is done first: nothing, one expression, or declarations.
         first: Vec<TStmt>,
         /// The condition.
-        test: Option<TExpr>,
+        test: Option<Box<TExpr>>,
         /// What is done after each turn.
-        step: Option<TExpr>,
+        step: Option<Box<TExpr>>,
         /// The body.
         body: Box<TStmt>,
     },
     /// `switch` (6.8.4.2).
     Switch {
         /// What is compared with the labels, of type `int` or `unsigned int`.
-        on: TExpr,
+        on: Box<TExpr>,
         /// Labels and the statements after them.
         groups: Vec<TGroup>,
     },
@@ -228,7 +228,7 @@ pub enum TStmt {
     /// `continue` (6.8.6.2).
     Continue,
     /// `return` (6.8.6.4).
-    Return(Option<TExpr>),
+    Return(Option<Box<TExpr>>),
 }
 
 impl Drop for TStmt {

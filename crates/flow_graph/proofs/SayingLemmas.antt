@@ -91,16 +91,16 @@ of_empty old s k is form = sym (append-nil old) ∙ ap (λ ms. old ++ ms) (sym (
 pub of_block : (s : TStmt) (v : Vec TStmt Global) → s ≡ Block v → mentions_of_stmt (stmt_of s) ≡ mentions_of_stmts (stmts_of v.items)
 of_block s v is = ap (λ s. mentions_of_stmt (stmt_of s)) is ∙ ap mentions_of_stmt (block_is v)
 
-pub of_for : (s : TStmt) (v : Vec TStmt Global) (test step : Option TExpr) (b : Box TStmt Global) → s ≡ For v test step b → mentions_of_stmt (stmt_of s) ≡ mentions_of_stmts (stmts_of v.items) ++ (mentions_of_maybe (maybe_of test) ++ (mentions_of_maybe (maybe_of step) ++ mentions_of_stmt (stmt_of b.value)))
+pub of_for : (s : TStmt) (v : Vec TStmt Global) (test step : Option (Box TExpr Global)) (b : Box TStmt Global) → s ≡ For v test step b → mentions_of_stmt (stmt_of s) ≡ mentions_of_stmts (stmts_of v.items) ++ (mentions_of_maybe (maybe_of test) ++ (mentions_of_maybe (maybe_of step) ++ mentions_of_stmt (stmt_of b.value)))
 of_for s v test step b is = ap (λ s. mentions_of_stmt (stmt_of s)) is ∙ ap mentions_of_stmt (for_is v test step b)
 
-pub of_switch : (s : TStmt) (e : TExpr) (v : Vec TGroup Global) → s ≡ Switch e v → mentions_of_stmt (stmt_of s) ≡ mentions (expr_of e) ++ mentions_of_groups (groups_of v.items)
+pub of_switch : (s : TStmt) (e : Box TExpr Global) (v : Vec TGroup Global) → s ≡ Switch e v → mentions_of_stmt (stmt_of s) ≡ mentions (expr_of e.value) ++ mentions_of_groups (groups_of v.items)
 of_switch s e v is = ap (λ s. mentions_of_stmt (stmt_of s)) is ∙ ap mentions_of_stmt (switch_is e v)
 
-pub of_if_none : (s : TStmt) (e : TExpr) (y : Box TStmt Global) (o : Option (Box TStmt Global)) → s ≡ If e y o → o ≡ None → mentions_of_stmt (stmt_of s) ≡ mentions (expr_of e) ++ mentions_of_stmt (stmt_of y.value)
-of_if_none s e y o is none = ap (λ s. mentions_of_stmt (stmt_of s)) (is ∙ ap (λ o. If e y o) none) ∙ ap (λ ms. mentions (expr_of e) ++ ms) (append-nil (mentions_of_stmt (stmt_of y.value)))
+pub of_if_none : (s : TStmt) (e : Box TExpr Global) (y : Box TStmt Global) (o : Option (Box TStmt Global)) → s ≡ If e y o → o ≡ None → mentions_of_stmt (stmt_of s) ≡ mentions (expr_of e.value) ++ mentions_of_stmt (stmt_of y.value)
+of_if_none s e y o is none = ap (λ s. mentions_of_stmt (stmt_of s)) (is ∙ ap (λ o. If e y o) none) ∙ ap (λ ms. mentions (expr_of e.value) ++ ms) (append-nil (mentions_of_stmt (stmt_of y.value)))
 
-pub of_if_some : (s : TStmt) (e : TExpr) (y b : Box TStmt Global) (o : Option (Box TStmt Global)) → s ≡ If e y o → o ≡ Some b → mentions_of_stmt (stmt_of s) ≡ mentions (expr_of e) ++ (mentions_of_stmt (stmt_of y.value) ++ mentions_of_stmt (stmt_of b.value))
+pub of_if_some : (s : TStmt) (e : Box TExpr Global) (y b : Box TStmt Global) (o : Option (Box TStmt Global)) → s ≡ If e y o → o ≡ Some b → mentions_of_stmt (stmt_of s) ≡ mentions (expr_of e.value) ++ (mentions_of_stmt (stmt_of y.value) ++ mentions_of_stmt (stmt_of b.value))
 of_if_some s e y b o is some = ap (λ s. mentions_of_stmt (stmt_of s)) (is ∙ ap (λ o. If e y o) some)
 
 -- a program's functions and statics

@@ -53,16 +53,16 @@ module _ (n : ℕ) (ms : List Bool) where
   pub of_block : (s : TStmt) (v : Vec TStmt Global) → s ≡ Block v → seq (stmts_at n ms (stmts_of v.items)) ≡ stmt_at n ms (stmt_of s)
   of_block s v is = sym (ap (λ s. stmt_at n ms (stmt_of s)) is ∙ ap (stmt_at n ms) (block_is v))
 
-  pub of_for : (s : TStmt) (v : Vec TStmt Global) (test step : Option TExpr) (b : Box TStmt Global) → s ≡ For v test step b
+  pub of_for : (s : TStmt) (v : Vec TStmt Global) (test step : Option (Box TExpr Global)) (b : Box TStmt Global) → s ≡ For v test step b
       → seq_two (seq (stmts_at n ms (stmts_of v.items))) (Loop (maybe_at n ms (maybe_of test)) (stmt_at n ms (stmt_of b.value)) (maybe_at n ms (maybe_of step))) ≡ stmt_at n ms (stmt_of s)
   of_for s v test step b is = sym (ap (λ s. stmt_at n ms (stmt_of s)) is ∙ ap (stmt_at n ms) (for_is v test step b))
 
-  pub of_switch : (s : TStmt) (e : TExpr) (v : Vec TGroup Global) → s ≡ Switch e v → seq_two (expr_at n ms (expr_of e)) (Cases (groups_at n ms (groups_of v.items)) (has_default (groups_of v.items))) ≡ stmt_at n ms (stmt_of s)
+  pub of_switch : (s : TStmt) (e : Box TExpr Global) (v : Vec TGroup Global) → s ≡ Switch e v → seq_two (expr_at n ms (expr_of e.value)) (Cases (groups_at n ms (groups_of v.items)) (has_default (groups_of v.items))) ≡ stmt_at n ms (stmt_of s)
   of_switch s e v is = sym (ap (λ s. stmt_at n ms (stmt_of s)) is ∙ ap (stmt_at n ms) (switch_is e v))
 
-  pub of_if_none : (s : TStmt) (e : TExpr) (y : Box TStmt Global) (o : Option (Box TStmt Global)) → s ≡ If e y o → o ≡ None → seq_two (expr_at n ms (expr_of e)) (alt (stmt_at n ms (stmt_of y.value)) Skip) ≡ stmt_at n ms (stmt_of s)
+  pub of_if_none : (s : TStmt) (e : Box TExpr Global) (y : Box TStmt Global) (o : Option (Box TStmt Global)) → s ≡ If e y o → o ≡ None → seq_two (expr_at n ms (expr_of e.value)) (alt (stmt_at n ms (stmt_of y.value)) Skip) ≡ stmt_at n ms (stmt_of s)
   of_if_none s e y o is none = sym (ap (λ s. stmt_at n ms (stmt_of s)) (is ∙ ap (λ o. If e y o) none))
 
-  pub of_if_some : (s : TStmt) (e : TExpr) (y b : Box TStmt Global) (o : Option (Box TStmt Global)) → s ≡ If e y o → o ≡ Some b
-      → seq_two (expr_at n ms (expr_of e)) (alt (stmt_at n ms (stmt_of y.value)) (stmt_at n ms (stmt_of b.value))) ≡ stmt_at n ms (stmt_of s)
+  pub of_if_some : (s : TStmt) (e : Box TExpr Global) (y b : Box TStmt Global) (o : Option (Box TStmt Global)) → s ≡ If e y o → o ≡ Some b
+      → seq_two (expr_at n ms (expr_of e.value)) (alt (stmt_at n ms (stmt_of y.value)) (stmt_at n ms (stmt_of b.value))) ≡ stmt_at n ms (stmt_of s)
   of_if_some s e y b o is some = sym (ap (λ s. stmt_at n ms (stmt_of s)) (is ∙ ap (λ o. If e y o) some))

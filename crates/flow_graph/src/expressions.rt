@@ -200,7 +200,7 @@ impl<'p> Reading<'p> {
     }
 
     // The shape of an expression that may be absent.
-    pub fn maybe(&self, alloc: Global, e: &Option<TExpr>) -> Result<Shape, OutOfMemory>
+    pub fn maybe(&self, alloc: Global, e: &Option<Box<TExpr>>) -> Result<Shape, OutOfMemory>
         ensures { IfOk result (λ s. shape_of s ≡ maybe_at self.now.defined self.now.marks.now (maybe_of e.now)) }
     {
         match e {

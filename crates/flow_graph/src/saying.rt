@@ -104,7 +104,7 @@ fn add_expressions<'p>(into: &mut Vec<Mention<'p>>, es: &'p [TExpr]) -> Result<(
     Ok(())
 }
 
-fn add_maybe<'p>(into: &mut Vec<Mention<'p>>, e: &'p Option<TExpr>) -> Result<(), OutOfMemory>
+fn add_maybe<'p>(into: &mut Vec<Mention<'p>>, e: &'p Option<Box<TExpr>>) -> Result<(), OutOfMemory>
     ensures { OnOk result (said into.new.items ≡ said into.old.items ++ mentions_of_maybe (maybe_of e.now)) }
 {
     match e {

@@ -80,9 +80,9 @@ impl<'p> Reading<'p> {
         &self,
         alloc: Global,
         first: Shape,
-        test: &Option<TExpr>,
+        test: &Option<Box<TExpr>>,
         body: Shape,
-        step: &Option<TExpr>,
+        step: &Option<Box<TExpr>>,
     ) -> Result<Shape, OutOfMemory>
         ensures { IfOk result (λ shape. shape_of shape ≡ seq_two (shape_of first) (Loop (maybe_at self.now.defined self.now.marks.now (maybe_of test.now)) (shape_of body) (maybe_at self.now.defined self.now.marks.now (maybe_of step.now)))) }
     {

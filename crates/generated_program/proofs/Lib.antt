@@ -1,3 +1,13 @@
 pub mod RecordLemmas
 pub mod TextLemmas
 pub mod Trials
+pub mod Names
+pub mod Scopes
+pub mod Bodies
+pub mod Definitions
+pub mod Typed
+pub mod Written
+pub mod Read
+pub mod Reached
+pub mod Laid
+pub mod Counted

@@ -9,11 +9,12 @@ use Rattle.std.proofs.lemmas.List.Sums.{sum_by-cons, sum_by-set}
 use Rattle.std.proofs.lemmas.Option.{none-some, slice_get_within, get_or_from_slice_get, slice_get-get_or}
 use Rattle.flow_model.specs.Call.{Call}
 use Rattle.flow_model.specs.Graph.{Graph}
-use Rattle.inline_model_laws.specs.Within.{Within}
-use Rattle.inline_model_laws.specs.Chains.{Opening}
-use Rattle.inline_model_laws.proofs.ChainLemmas.{FromFunction, stays, goes}
-use Rattle.inline_model_openings.specs.declared.table.Entry.{Entry}
-use Rattle.inline_model_openings.specs.Entries.{IsEntry, AreEntries}
+use Rattle.inline_model.specs.Within.{Within}
+use Rattle.inline_model.specs.Chains.{Opening}
+use Rattle.inline_model.specs.Searching.{FromFunction}
+use Rattle.inline_model.specs.Searching.FromFunction.{stays, goes}
+use Rattle.inline_model.specs.declared.table.Entry.{Entry}
+use Rattle.inline_model.specs.Entries.{IsEntry, AreEntries}
 use Rattle.inline_model.specs.Searching.{IsHeight, HasPlace, Enters, IsComplete, count_of, known_count, AreLow, IsReady, StayLow, IsNext, lesser, IsGreatestAbove, AreHeights, Completes}
 
 module _ (g : Graph) (heights : List (Option ℕ)) (from : ℕ) where

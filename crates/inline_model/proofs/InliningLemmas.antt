@@ -10,14 +10,14 @@ use Rattle.flow_model.specs.Built.{Records, graph_of_records}
 use Rattle.flow_model.specs.Graph.{Graph}
 use Rattle.flow_model.specs.Order.{silent_order, sys_order, StrictlyRise}
 use Rattle.flow_model.specs.Rules.{IsValid}
-use Rattle.inline_model_laws.specs.Chains.{HasNoGreatest}
-use Rattle.inline_model_laws.specs.Copies.{node_count}
-use Rattle.inline_model_laws.specs.Inlined.{IsInlined, HasTooManyNodes}
-use Rattle.inline_model_laws.proofs.OneInlined.{one_list}
-use Rattle.inline_model_copies.specs.declared.copied.Copied.{Copied}
-use Rattle.inline_model_copies.specs.Named.{AreAllCopies}
-use Rattle.inline_model_edges.specs.Drawn.{IsDrawnSilent, IsDrawnSys}
-use Rattle.inline_model_edges.proofs.DrawnLemmas.{silent_drawn, drawn_silent, sys_is_drawn, drawn_sys}
+use Rattle.inline_model.specs.Chains.{HasNoGreatest}
+use Rattle.inline_model.specs.Copies.{node_count}
+use Rattle.inline_model.specs.Inlined.{IsInlined, HasTooManyNodes}
+use Rattle.inline_model.proofs.OneInlined.{one_list}
+use Rattle.inline_model.specs.declared.copied.Copied.{Copied}
+use Rattle.inline_model.specs.Named.{AreAllCopies}
+use Rattle.inline_model.specs.Drawn.{IsDrawnSilent, IsDrawnSys}
+use Rattle.inline_model.proofs.DrawnLemmas.{silent_drawn, drawn_silent, sys_is_drawn, drawn_sys}
 use Rattle.inline_model.specs.declared.depths.Depth.{Depth}
 use Rattle.inline_model.specs.declared.depths.Depth.TheVariants.{Greatest, Unbounded}
 use Rattle.inline_model.specs.Cause.{IsBounded}

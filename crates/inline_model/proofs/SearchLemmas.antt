@@ -9,14 +9,14 @@ use Rattle.std.proofs.lemmas.Option.{slice_get_within, get_or_from_slice_get}
 use Rattle.flow_model.specs.Graph.{Graph, HasCall}
 use Rattle.flow_model.specs.Rules.{IsValid}
 use Rattle.flow_model.proofs.ModelLemmas.{functions_few}
-use Rattle.inline_model_laws.proofs.Basics.{candidate_below}
-use Rattle.inline_model_laws.specs.Within.{Within}
+use Rattle.inline_model.proofs.Basics.{candidate_below}
+use Rattle.inline_model.specs.Within.{Within}
 use Rattle.flow_model.proofs.Rising.{cons_cases, is_first, is_later}
 use Rattle.inline_model.specs.declared.path.Frame.{Frame}
 use Rattle.inline_model.specs.declared.search.Mark.{Mark}
 use Rattle.inline_model.specs.declared.search.Mark.TheVariants.{Unseen, Open, Done}
-use Rattle.inline_model_openings.specs.declared.table.Entry.{Entry}
-use Rattle.inline_model_openings.specs.Entries.{IsEntry, AreEntries}
+use Rattle.inline_model.specs.declared.table.Entry.{Entry}
+use Rattle.inline_model.specs.Entries.{IsEntry, AreEntries}
 use Rattle.inline_model.specs.Searching.{Enters, HasPlace, OpensPlace, IsDone, IsOpen, Passed, OnPath, IsPath, AreSearching, IsNext, IsReady, StayLow, Completes, mark_left, frame_left, turns_left}
 use Rattle.inline_model.specs.Searching.IsPath.{bottom, above}
 use Rattle.inline_model.proofs.HeightLemmas.{slice_get-set_same, slice_get-set_other}

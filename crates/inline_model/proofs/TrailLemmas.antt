@@ -11,12 +11,14 @@ use Rattle.flow_model.specs.Graph.{Graph, HasCall}
 use Rattle.flow_model.specs.Order.{site_order, StrictlyRise}
 use Rattle.flow_model.specs.Rules.{IsValid}
 use Rattle.flow_model.proofs.OrderLemmas.{lt_from_less}
-use Rattle.inline_model_laws.specs.Within.{Within}
-use Rattle.inline_model_laws.specs.Chains.{Opening, Opens, IsChain, IsRecursion}
-use Rattle.inline_model_laws.specs.Chains.IsChain.{empty}
-use Rattle.inline_model_laws.proofs.ChainLemmas.{FromFunction, stays, goes, chain_from}
+use Rattle.inline_model.specs.Within.{Within}
+use Rattle.inline_model.specs.Chains.{Opening, Opens, IsChain, IsRecursion}
+use Rattle.inline_model.specs.Chains.IsChain.{empty}
+use Rattle.inline_model.specs.Searching.{FromFunction}
+use Rattle.inline_model.specs.Searching.FromFunction.{stays, goes}
+use Rattle.inline_model.proofs.ChainLemmas.{chain_from}
 use Rattle.flow_model.proofs.Rising.{cons_cases, is_first, pairs_nil, pairs_cons}
-use Rattle.inline_model_openings.specs.Entries.{IsEntry}
+use Rattle.inline_model.specs.Entries.{IsEntry}
 use Rattle.inline_model.specs.declared.path.Frame.{Frame}
 use Rattle.inline_model.specs.declared.search.Mark.{Mark}
 use Rattle.inline_model.specs.Places.{places_in, place_of, places_onto, site_at}

@@ -15,13 +15,13 @@ use Rattle.flow_model.specs.Call.{Call}
 use Rattle.flow_model.specs.Graph.{Graph, Owns, HaveOneOwner, end_of}
 use Rattle.flow_model.specs.Order.{site_order, StrictlyRise}
 use Rattle.flow_model.specs.Rules.{HasRightEntries, HasOwnExits, HasRightNames, HasRightPatterns, IsInOrder, IsValid}
-use Rattle.inline_model_laws.specs.Copies.{Opened, function_of, entry_of, size_of, node_count}
-use Rattle.inline_model_laws.specs.Copies.IsCopy.{of_start}
-use Rattle.inline_model_laws.specs.Inlined.{IsNodeOf, HasInlinedSilent, HasInlinedSys, IsInlined}
-use Rattle.inline_model_laws.specs.Inlined.HasInlinedSilent.{copied, enters, leaves}
-use Rattle.inline_model_laws.specs.Inlined.HasInlinedSys.{copied as copied_sys}
-use Rattle.inline_model_laws.proofs.Basics.{entry_is}
-use Rattle.inline_model_laws.proofs.InlinedLemmas.{has_copy, node_of}
+use Rattle.inline_model.specs.Copies.{Opened, function_of, entry_of, size_of, node_count}
+use Rattle.inline_model.specs.Copies.IsCopy.{of_start}
+use Rattle.inline_model.specs.Inlined.{IsNodeOf, HasInlinedSilent, HasInlinedSys, IsInlined}
+use Rattle.inline_model.specs.Inlined.HasInlinedSilent.{copied, enters, leaves}
+use Rattle.inline_model.specs.Inlined.HasInlinedSys.{copied as copied_sys}
+use Rattle.inline_model.proofs.Basics.{entry_is}
+use Rattle.inline_model.proofs.InlinedLemmas.{has_copy, node_of}
 use Rattle.flow_model.proofs.Rising.{cons_cases, pairs_nil, pairs_cons}
 use Rattle.flow_model.proofs.Rising.{all_from}
 

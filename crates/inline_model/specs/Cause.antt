@@ -3,8 +3,8 @@ use Rattle.std.specs.Prelude.{ℕ}
 use Rattle.flow_model.specs.Graph.{Graph}
 use Rattle.inline_model.specs.declared.failure.InlineError.{InlineError}
 use Rattle.inline_model.specs.declared.failure.InlineError.TheVariants.{OutOfMemory, Recursive, TooManyNodes}
-use Rattle.inline_model_laws.specs.Chains.{IsGreatest, HasNoGreatest}
-use Rattle.inline_model_laws.specs.Inlined.{HasTooManyNodes}
+use Rattle.inline_model.specs.Chains.{IsGreatest, HasNoGreatest}
+use Rattle.inline_model.specs.Inlined.{HasTooManyNodes}
 
 -- the longest chains have a length
 abbrev pub IsBounded : Graph → Type 0

@@ -2,8 +2,8 @@
 use Rattle.flow_model.specs.Graph.{Graph}
 use Rattle.inline_model.specs.declared.depths.Depth.{Depth}
 use Rattle.inline_model.specs.declared.depths.Depth.TheVariants.{Greatest, Unbounded}
-use Rattle.inline_model_laws.specs.Chains.{IsGreatest, HasNoGreatest, IsRecursion}
-use Rattle.inline_model_laws.specs.Depths.{IsGreatestDepth, HasNoGreatestDepth}
+use Rattle.inline_model.specs.Chains.{IsGreatest, HasNoGreatest, IsRecursion}
+use Rattle.inline_model.specs.Depths.{IsGreatestDepth, HasNoGreatestDepth}
 
 -- the longest chains have this length, or chains have no greatest length
 abbrev pub HasLength : Graph → Depth → Type 0

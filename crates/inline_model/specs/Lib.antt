@@ -1,3 +1,14 @@
+pub mod Chains
+pub mod Copies
+pub mod Depths
+pub mod Inlined
+pub mod Within
+pub mod Entries
+pub mod Saturating
+pub mod Copying
+pub mod Named
+pub mod Drawn
+pub mod Growing
 pub mod Cause
 pub mod Depth
 pub mod Parts

@@ -8,9 +8,14 @@ use Rattle.inline_model.specs.declared.search.Mark.TheVariants.{Unseen, Open, Do
 use Rattle.inline_model.specs.declared.search.Search.{Search}
 use Rattle.inline_model.specs.declared.search.Turn.{Turn}
 use Rattle.inline_model.specs.declared.search.Turn.TheVariants.{Goes, Ends, Returns}
-use Rattle.inline_model_laws.proofs.ChainLemmas.{FromFunction}
-use Rattle.inline_model_openings.specs.declared.table.Entry.{Entry}
-use Rattle.inline_model_openings.specs.Entries.{IsEntry}
+use Rattle.inline_model.specs.Chains.{Opening}
+use Rattle.inline_model.specs.declared.table.Entry.{Entry}
+use Rattle.inline_model.specs.Entries.{IsEntry}
+
+-- the first site leaves the function, and each later one a candidate of the one before
+pub data FromFunction (g : Graph) : ℕ → List ℕ → Type 0 where
+  stays : {f : ℕ} → FromFunction g f []
+  goes : {f s h : ℕ} {sites : List ℕ} → Opening g f s h → FromFunction g h sites → FromFunction g f (s ∷ sites)
 
 -- the longest chains from the function have this length
 pub record IsHeight (g : Graph) (f n : ℕ) : Type 0 where

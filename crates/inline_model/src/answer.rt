@@ -1,16 +1,15 @@
 ghost use Rattle.std.specs.Prelude.{◌≡◌, ◌<◌, ℕ, length, map, slice_index, Contains, IfOk};
-ghost use Rattle.inline_model_openings.specs.Entries.{AreEntries};
+ghost use Rattle.inline_model.specs.Entries.{AreEntries};
 ghost use Rattle.inline_model.specs.Depth.{HasLength, HasCycle, HasDepth};
 ghost use Rattle.inline_model.specs.Places.{site_at};
 ghost use Rattle.inline_model.specs.Searching.{Closes};
 
-use crate::Sites;
 use crate::depths::Depth;
 use crate::search::{Search, Turn};
 use crate::turns::{begin, turn};
+use crate::{Entry, Sites, openings};
 use dm_base::OutOfMemory;
 use flow_model::Model;
-use inline_model_openings::{Entry, openings};
 use std::alloc::Global;
 
 // The site of the call edge at the place.

@@ -1,13 +1,12 @@
 ghost use Rattle.std.specs.Prelude.{◌≡◌, ◌≤◌, ◌++◌, ◌∷◌, [], ℕ, Some, IfOk, OnOk, slice_get};
 ghost use Rattle.flow_model.specs.Built.{graph_of_records};
-ghost use Rattle.inline_model_copies.specs.Named.{AreAllCopies};
-ghost use Rattle.inline_model_laws.specs.Inlined.{IsInlined};
+ghost use Rattle.inline_model.specs.Named.{AreAllCopies};
+ghost use Rattle.inline_model.specs.Inlined.{IsInlined};
 ghost use Rattle.inline_model.specs.Parts.{IsOnly};
 
+use crate::{Copied, count_nodes, draw_silent, draw_sys};
 use dm_base::{Bytes, OutOfMemory};
 use flow_model::{FinishError, Model, ModelBuilder, ModelFunction, SilentEdge, SysEdge};
-use inline_model_copies::Copied;
-use inline_model_edges::{count_nodes, draw_silent, draw_sys};
 use std::alloc::Global;
 
 // The start function.

@@ -3,9 +3,9 @@ ghost use Rattle.dm_base.specs.declared.event.Event.{Event};
 ghost use Rattle.flow_model.specs.declared.which.Which.TheVariants.{Callgraph, Stack};
 ghost use Rattle.flow_model.specs.Graph.{Graph};
 ghost use Rattle.flow_model.specs.Language.{Reads};
-ghost use Rattle.inline_model_copies.specs.Named.{AreAllCopies};
-ghost use Rattle.inline_model_laws.specs.Inlined.{IsInlined, HasTooManyNodes};
-ghost use Rattle.inline_model_openings.specs.Entries.{AreEntries};
+ghost use Rattle.inline_model.specs.Named.{AreAllCopies};
+ghost use Rattle.inline_model.specs.Inlined.{IsInlined, HasTooManyNodes};
+ghost use Rattle.inline_model.specs.Entries.{AreEntries};
 ghost use Rattle.inline_model.specs.Cause.{IsBounded, HasCause};
 ghost use Rattle.inline_model.specs.Depth.{HasLength};
 
@@ -13,11 +13,9 @@ use crate::answer::depth_of;
 use crate::building::build;
 use crate::depths::Depth;
 use crate::failure::InlineError;
+use crate::{Copied, CopiesError, Entry, copies, inlining_keeps_words, openings};
 use dm_base::OutOfMemory;
 use flow_model::Model;
-use inline_model_copies::{Copied, CopiesError, copies};
-use inline_model_laws::inlining_keeps_words;
-use inline_model_openings::{Entry, openings};
 use std::alloc::Global;
 
 // Refuses a depth that has no greatest length.

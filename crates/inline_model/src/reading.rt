@@ -2,12 +2,12 @@ ghost use Rattle.std.specs.Prelude.{◌≡◌, ◌+◌, ◌<◌, ℕ, ◌↔◌,
 ghost use Rattle.std.specs.Option.{option_copied};
 ghost use Rattle.flow_model.specs.Graph.{Graph};
 ghost use Rattle.flow_model.specs.Order.{StrictlyRise};
-ghost use Rattle.inline_model_openings.specs.declared.table.Entry.{Entry};
-ghost use Rattle.inline_model_openings.specs.Entries.{AreEntries, entry_order};
+ghost use Rattle.inline_model.specs.declared.table.Entry.{Entry};
+ghost use Rattle.inline_model.specs.Entries.{AreEntries, entry_order};
 ghost use Rattle.inline_model.specs.Searching.{IsComplete, IsNext, Enters, IsGreatestAbove, AreHeights, AreLow, IsReady, StayLow, Completes, lesser};
 
+use crate::{Entry, entries_of, next_place};
 use flow_model::{CallEdge, Model};
-use inline_model_openings::{Entry, entries_of, next_place};
 
 /// The call edge at the place.
 pub fn call_of(model: &Model, place: usize) -> Option<&CallEdge>

@@ -1,8 +1,8 @@
+use crate::Entry;
 use crate::path::{Frame, Path};
 use crate::reading::{complete, next_opened};
 use dm_base::OutOfMemory;
 use flow_model::Model;
-use inline_model_openings::Entry;
 use std::alloc::Global;
 
 /// How far a call edge has been searched.

@@ -1,14 +1,14 @@
 ghost use Rattle.std.specs.Prelude.{◌≡◌, ◌<◌, ℕ, replicate, IfOk, Some, List, ◌∷◌, length, slice_get};
-ghost use Rattle.inline_model_openings.specs.Entries.{AreEntries};
+ghost use Rattle.inline_model.specs.Entries.{AreEntries};
 ghost use Rattle.inline_model.specs.declared.path.Frame.{Frame};
 ghost use Rattle.inline_model.specs.Searching.{IsSearching, IsTurn, IsNext, Enters, IsDone};
 
+use crate::Entry;
 use crate::path::{Frame, Path};
 use crate::reading::{complete, height_at, next_opened};
 use crate::search::{Mark, Search, Turn};
 use dm_base::OutOfMemory;
 use flow_model::Model;
-use inline_model_openings::Entry;
 use std::alloc::Global;
 
 // So many call edges that were not reached.

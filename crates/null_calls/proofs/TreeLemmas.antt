@@ -14,18 +14,18 @@ use Rattle.c_rules.specs.Functions.{items_of_body}
 use Rattle.c_syntax.proofs.NodeRows.{if_is}
 use Rattle.c_syntax.proofs.UnitRows.{stmts_row}
 
-pub is_if : (s : StmtTree) (e : ExprTree) (y : Box StmtTree Global) (o p : Option (Box StmtTree Global)) → s.kind ≡ If e y o → o ≡ p → stmt_of s ≡ if_with s.at e (stmt_of y.value) (else_behind p)
-is_if s e y o p is same = ap (stmt_at s.at) is ∙ (if_is s.at e y o ∙ ap (λ r. if_with s.at e (stmt_of y.value) (else_behind r)) same)
+pub is_if : (s : StmtTree) (e : Box ExprTree Global) (y : Box StmtTree Global) (o p : Option (Box StmtTree Global)) → s.kind ≡ If e y o → o ≡ p → stmt_of s ≡ if_with s.at e.value (stmt_of y.value) (else_behind p)
+is_if s e y o p is same = ap (stmt_at s.at) is ∙ (if_is s.at e y o ∙ ap (λ r. if_with s.at e.value (stmt_of y.value) (else_behind r)) same)
 
 -- a statement other than a block stands alone in a body
 if_stays : (at : ℕ) (e : ExprTree) (s : Stmt) (o : Option Stmt) → items_of_body (if_with at e s o) ≡ block_stmt (if_with at e s o) no_block_items
 if_stays at e s None = refl
 if_stays at e s (Some r) = refl
 
-pub if_alone : (s : StmtTree) (e : ExprTree) (y : Box StmtTree Global) (o : Option (Box StmtTree Global)) → s.kind ≡ If e y o → items_of_body (stmt_of s) ≡ block_stmt (stmt_of s) no_block_items
+pub if_alone : (s : StmtTree) (e : Box ExprTree Global) (y : Box StmtTree Global) (o : Option (Box StmtTree Global)) → s.kind ≡ If e y o → items_of_body (stmt_of s) ≡ block_stmt (stmt_of s) no_block_items
 if_alone s e y o is =
     let told = is_if s e y o o is refl in
-    ap items_of_body told ∙ (if_stays s.at e (stmt_of y.value) (else_behind o) ∙ sym (ap (λ x. block_stmt x no_block_items) told))
+    ap items_of_body told ∙ (if_stays s.at e.value (stmt_of y.value) (else_behind o) ∙ sym (ap (λ x. block_stmt x no_block_items) told))
 
 -- ## Groups that are made
 

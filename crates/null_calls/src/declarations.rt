@@ -2,8 +2,8 @@
 
 ghost use Rattle.std.specs.Prelude.{◌≡◌, IfOk};
 ghost use Rattle.c_syntax.specs.Tree.{list};
-ghost use Rattle.c_syntax.specs.View.{expr_of};
-ghost use Rattle.c_syntax.specs.UnitView.{init_of, maybe_init_of, maybe_of, parts_of, decl_of};
+ghost use Rattle.c_syntax.specs.View.{expr_behind, expr_of};
+ghost use Rattle.c_syntax.specs.UnitView.{init_of, maybe_init_of, parts_of, decl_of};
 ghost use Rattle.c_syntax.specs.WritesUnit.{inits_of};
 ghost use Rattle.null_calls_expressions.specs.Sited.{sited};
 ghost use Rattle.null_calls_expressions.specs.Marked.{IsMarked, IsMarkedBefore, reached, of_expr, of_maybe, of_init, of_inits, of_maybe_init, of_parts, of_decl};
@@ -34,16 +34,17 @@ pub fn maybe<'p>(
     alloc: Global,
     table: &MarkedSites<'p>,
     wanted: bool,
-    e: &Option<Expr>,
+    e: &Option<Box<Expr>>,
     next: &mut Count,
     kept: &mut Vec<Temporary<'p>>,
-) -> Result<Option<Expr>, OutOfMemory>
-    ensures { IfOk result (λ made. IsMarked (of_maybe (sited table.now) wanted) (reached next.old kept.old.items) (reached next.new kept.new.items) (maybe_of e.now) (maybe_of made)) }
+) -> Result<Option<Box<Expr>>, OutOfMemory>
+    ensures { IfOk result (λ made. IsMarked (of_maybe (sited table.now) wanted) (reached next.old kept.old.items) (reached next.new kept.new.items) (expr_behind e.now) (expr_behind made)) }
 {
     match e {
         Some(e) => {
             let made = value(alloc, table, wanted, e, next, kept)?;
-            Ok(Some(made))
+            let boxed = Box::new(alloc, made)?;
+            Ok(Some(boxed))
         }
         None => Ok(None),
     }

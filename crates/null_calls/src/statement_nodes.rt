@@ -1,9 +1,9 @@
 // The nodes of statements.
 
 ghost use Rattle.std.specs.Prelude.{◌≡◌, IfOk};
-ghost use Rattle.c_syntax.specs.Tree.{block, only_if, if_else, while_loop, do_loop, for_loop, switch_on, more_groups, Groups};
-ghost use Rattle.c_syntax.specs.View.{expr_of};
-ghost use Rattle.c_syntax.specs.UnitView.{stmt_of, first_of_head, maybe_of, labels_of, group_before};
+ghost use Rattle.c_syntax.specs.Tree.{block, evaluate, only_if, if_else, while_loop, do_loop, for_loop, switch_on, more_groups, Groups};
+ghost use Rattle.c_syntax.specs.View.{expr_behind, expr_of};
+ghost use Rattle.c_syntax.specs.UnitView.{stmt_of, first_of_head, labels_of, group_before};
 ghost use Rattle.c_syntax.specs.WritesUnit.{block_items_of, groups_of, stmts_of};
 
 use c_syntax::{BlockItem, Expr, ForFirst, Group, Label, Stmt, StmtKind};
@@ -20,10 +20,22 @@ pub fn block_node(at: u32, items: Vec<BlockItem>) -> Stmt
     }
 }
 
+// An expression as a statement (6.8.3).
+pub fn evaluation_node(alloc: Global, at: u32, e: Expr) -> Result<Stmt, OutOfMemory>
+    ensures { IfOk result (λ made. stmt_of made ≡ evaluate at (expr_of e)) }
+{
+    let e = Box::new(alloc, e)?;
+    Ok(Stmt {
+        at,
+        kind: StmtKind::Expr(e),
+    })
+}
+
 // `if` without `else` (6.8.4.1).
 pub fn if_node(alloc: Global, at: u32, test: Expr, yes: Stmt) -> Result<Stmt, OutOfMemory>
     ensures { IfOk result (λ made. stmt_of made ≡ only_if at (expr_of test) (stmt_of yes)) }
 {
+    let test = Box::new(alloc, test)?;
     let yes = Box::new(alloc, yes)?;
     Ok(Stmt {
         at,
@@ -45,6 +57,7 @@ pub fn if_else_node(
 ) -> Result<Stmt, OutOfMemory>
     ensures { IfOk result (λ made. stmt_of made ≡ if_else at (expr_of test) (stmt_of yes) (stmt_of no)) }
 {
+    let test = Box::new(alloc, test)?;
     let yes = Box::new(alloc, yes)?;
     let no = Box::new(alloc, no)?;
     Ok(Stmt {
@@ -61,6 +74,7 @@ pub fn if_else_node(
 pub fn while_node(alloc: Global, at: u32, test: Expr, body: Stmt) -> Result<Stmt, OutOfMemory>
     ensures { IfOk result (λ made. stmt_of made ≡ while_loop at (expr_of test) (stmt_of body)) }
 {
+    let test = Box::new(alloc, test)?;
     let body = Box::new(alloc, body)?;
     Ok(Stmt {
         at,
@@ -72,6 +86,7 @@ pub fn while_node(alloc: Global, at: u32, test: Expr, body: Stmt) -> Result<Stmt
 pub fn do_node(alloc: Global, at: u32, body: Stmt, test: Expr) -> Result<Stmt, OutOfMemory>
     ensures { IfOk result (λ made. stmt_of made ≡ do_loop at (stmt_of body) (expr_of test)) }
 {
+    let test = Box::new(alloc, test)?;
     let body = Box::new(alloc, body)?;
     Ok(Stmt {
         at,
@@ -84,11 +99,11 @@ pub fn for_node(
     alloc: Global,
     at: u32,
     first: ForFirst,
-    test: Option<Expr>,
-    step: Option<Expr>,
+    test: Option<Box<Expr>>,
+    step: Option<Box<Expr>>,
     body: Stmt,
 ) -> Result<Stmt, OutOfMemory>
-    ensures { IfOk result (λ made. stmt_of made ≡ for_loop at (first_of_head first) (maybe_of test) (maybe_of step) (stmt_of body)) }
+    ensures { IfOk result (λ made. stmt_of made ≡ for_loop at (first_of_head first) (expr_behind test) (expr_behind step) (stmt_of body)) }
 {
     let body = Box::new(alloc, body)?;
     Ok(Stmt {
@@ -103,13 +118,19 @@ pub fn for_node(
 }
 
 // `switch` (6.8.4.2).
-pub fn switch_node(at: u32, on: Expr, groups: Vec<Group>) -> Stmt
-    ensures { stmt_of result ≡ switch_on at (expr_of on) (groups_of groups.items) }
+pub fn switch_node(
+    alloc: Global,
+    at: u32,
+    on: Expr,
+    groups: Vec<Group>,
+) -> Result<Stmt, OutOfMemory>
+    ensures { IfOk result (λ made. stmt_of made ≡ switch_on at (expr_of on) (groups_of groups.items)) }
 {
-    Stmt {
+    let on = Box::new(alloc, on)?;
+    Ok(Stmt {
         at,
         kind: StmtKind::Switch { on, groups },
-    }
+    })
 }
 
 // Labels and the statements after them.

@@ -8,7 +8,8 @@ ghost use Rattle.null_calls_expressions.specs.Marked.{IsMarked, IsMarkedBefore, 
 
 use crate::declarations::{declaration, maybe, value};
 use crate::statement_nodes::{
-    block_node, do_node, for_node, group_node, if_else_node, if_node, switch_node, while_node,
+    block_node, do_node, evaluation_node, for_node, group_node, if_else_node, if_node, switch_node,
+    while_node,
 };
 use c_syntax::{BlockItem, ForFirst, Group, Stmt, StmtKind};
 use dm_base::OutOfMemory;
@@ -30,7 +31,8 @@ fn head<'p>(
         ForFirst::Absent => Ok(ForFirst::Absent),
         ForFirst::Expr(e) => {
             let made = value(alloc, table, false, e, next, kept)?;
-            Ok(ForFirst::Expr(made))
+            let boxed = Box::new(alloc, made)?;
+            Ok(ForFirst::Expr(boxed))
         }
         ForFirst::Declaration(d) => {
             let made = declaration(alloc, table, d, next, kept)?;
@@ -63,10 +65,7 @@ pub fn statement<'p>(
         }),
         StmtKind::Expr(e) => {
             let made = value(alloc, table, false, e, next, kept)?;
-            Ok(Stmt {
-                at,
-                kind: StmtKind::Expr(made),
-            })
+            evaluation_node(alloc, at, made)
         }
         StmtKind::If { test, yes, no } => {
             let made = value(alloc, table, true, test, next, kept)?;
@@ -104,7 +103,7 @@ pub fn statement<'p>(
         StmtKind::Switch { on, groups } => {
             let made = value(alloc, table, true, on, next, kept)?;
             let all = group_list(alloc, table, groups, next, kept)?;
-            Ok(switch_node(at, made, all))
+            switch_node(alloc, at, made, all)
         }
         StmtKind::Break => Ok(Stmt {
             at,

@@ -57,11 +57,11 @@ groups_part r v all from old inner new e i =
     (λ w st. ap (λ z. then_do z (λ x st. Go (out_of_switch x) st [])) (from_there p w (place_of h) (selected v (groups_of all)) all st ∙ ap (λ gs. exec_from p w (place_of h) 0 (groups_of gs) st) (sym e)))
     (under p h m m exits.Switch old inner new (λ w st. exec_from p w (place_of h) 0 (groups_of from) st) now i (f p h m)))
 
-pub switched_part : (r : Result Now OutOfMemory) (v : Value) (e : TExpr) (groups : Vec TGroup Global) (of : TStmt) (gs : List TGroup) (old new : List Frame) → of ≡ Switch e groups → gs ≡ groups.items
+pub switched_part : (r : Result Now OutOfMemory) (v : Value) (e : Box TExpr Global) (groups : Vec TGroup Global) (of : TStmt) (gs : List TGroup) (old new : List Frame) → of ≡ Switch e groups → gs ≡ groups.items
     → IfOk r (λ now. (p : Program) (h : Here) (m : Objects) → Leaves p h m old (λ w st. then_do (exec_from p w (place_of h) (selected v (groups_of gs)) (groups_of gs) st) (λ x st. Go (out_of_switch x) st [])) now m new)
     → IfOk r (λ now. (p : Program) (h : Here) (m : Objects) → Leaves p h m old (λ w st. switched p w (place_of h) (stmt_of of) v st) now m new)
 switched_part r v e groups of gs old new is items f =
-    let q : stmt_of of ≡ switch_on (expr_of e) (groups_of gs) = ap stmt_of is ∙ (switch_is e groups ∙ ap (λ gs. switch_on (expr_of e) (groups_of gs)) (sym items)) in
+    let q : stmt_of of ≡ switch_on (expr_of e.value) (groups_of gs) = ap stmt_of is ∙ (switch_is e groups ∙ ap (λ gs. switch_on (expr_of e.value) (groups_of gs)) (sym items)) in
     subst (λ x. IfOk r (λ now. (p : Program) (h : Here) (m : Objects) → Leaves p h m old (λ w st. switched p w (place_of h) x v st) now m new)) (sym q) f
 
 -- ## Statements
@@ -103,7 +103,7 @@ module _ (r : Result Now OutOfMemory) (p : Program) (h : Here) (m : Objects) (of
       (if_ok r (λ now. (p : Program) (h : Here) (m : Objects) → Leaves p h m old (λ w st. then_do (exec_all p w (place_of h) (stmts_of ss) st) (after_part p w (place_of h) parted.Whole (stmt_of of))) now m new)
       (λ now. Leaves p h m old (λ w st. then_do (exec_all p w (place_of h) (stmts_of ss) st) (after_part p w (place_of h) parted.Whole (stmt_of of))) now m new) (λ now l. l p h m) f)
 
-  pub for_part : (v : Vec TStmt Global) (test step : Option TExpr) (body : Box TStmt Global) (ss : List TStmt) → of ≡ For v test step body → ss ≡ v.items
+  pub for_part : (v : Vec TStmt Global) (test step : Option (Box TExpr Global)) (body : Box TStmt Global) (ss : List TStmt) → of ≡ For v test step body → ss ≡ v.items
       → IfOk r (λ now. (p : Program) (h : Here) (m : Objects) → Leaves p h m old (λ w st. then_do (then_do (exec_all p w (place_of h) (stmts_of ss) st) (after_part p w (place_of h) parted.Head (stmt_of of))) (after_part p w (place_of h) parted.Whole (stmt_of of))) now m new) → Begins r p h m m of old new
   for_part v test step body ss e items f =
       let q : stmt_of of ≡ for_loop (stmts_of ss) (maybe_of test) (maybe_of step) (stmt_of body.value) = ap stmt_of e ∙ (for_is v test step body ∙ ap (λ ss. for_loop (stmts_of ss) (maybe_of test) (maybe_of step) (stmt_of body.value)) (sym items)) in
@@ -112,10 +112,10 @@ module _ (r : Result Now OutOfMemory) (p : Program) (h : Here) (m : Objects) (of
       (if_ok r (λ now. (p : Program) (h : Here) (m : Objects) → Leaves p h m old (λ w st. then_do (then_do (exec_all p w (place_of h) (stmts_of ss) st) (after_part p w (place_of h) parted.Head (stmt_of of))) (after_part p w (place_of h) parted.Whole (stmt_of of))) now m new)
       (λ now. Leaves p h m old (λ w st. then_do (then_do (exec_all p w (place_of h) (stmts_of ss) st) (after_part p w (place_of h) parted.Head (stmt_of of))) (after_part p w (place_of h) parted.Whole (stmt_of of))) now m new) (λ now l. l p h m) f)
 
-  pub if_part : (test : TExpr) (one : Box TStmt Global) (other : Option (Box TStmt Global)) → of ≡ If test one other
-      → IfOk r (λ now. (p : Program) (h : Here) (m : Objects) → Leaves p h m old (λ w st. then_do (eval p w (place_of h) true (expr_of test) st) (λ v st. then_do (asked v st) (one_of p w (place_of h) (stmt_of of)))) now m new) → Begins r p h m m of old new
-  if_part test one other e f =
-      by_part r p h m m of old new (λ w st. then_do (eval p w (place_of h) true (expr_of test) st) (λ v st. then_do (asked v st) (one_of p w (place_of h) (stmt_of of))))
-      (λ w st. if_same p w (place_of h) (stmt_of of) (expr_of test) (stmt_of one.value) (else_in (stmt_of (If test one other))) st (ap stmt_of e))
-      (if_ok r (λ now. (p : Program) (h : Here) (m : Objects) → Leaves p h m old (λ w st. then_do (eval p w (place_of h) true (expr_of test) st) (λ v st. then_do (asked v st) (one_of p w (place_of h) (stmt_of of)))) now m new)
-      (λ now. Leaves p h m old (λ w st. then_do (eval p w (place_of h) true (expr_of test) st) (λ v st. then_do (asked v st) (one_of p w (place_of h) (stmt_of of)))) now m new) (λ now l. l p h m) f)
+  pub if_part : (test : Box TExpr Global) (one : Box TStmt Global) (other : Option (Box TStmt Global)) (e : TExpr) → of ≡ If test one other → e ≡ test.value
+      → IfOk r (λ now. (p : Program) (h : Here) (m : Objects) → Leaves p h m old (λ w st. then_do (eval p w (place_of h) true (expr_of e) st) (λ v st. then_do (asked v st) (one_of p w (place_of h) (stmt_of of)))) now m new) → Begins r p h m m of old new
+  if_part test one other e is same f =
+      by_part r p h m m of old new (λ w st. then_do (eval p w (place_of h) true (expr_of e) st) (λ v st. then_do (asked v st) (one_of p w (place_of h) (stmt_of of))))
+      (λ w st. if_same p w (place_of h) (stmt_of of) (expr_of e) (stmt_of one.value) (else_in (stmt_of (If test one other))) st (ap stmt_of is ∙ ap (λ x. if_else (expr_of x) (stmt_of one.value) (else_in (stmt_of (If test one other)))) (sym same)))
+      (if_ok r (λ now. (p : Program) (h : Here) (m : Objects) → Leaves p h m old (λ w st. then_do (eval p w (place_of h) true (expr_of e) st) (λ v st. then_do (asked v st) (one_of p w (place_of h) (stmt_of of)))) now m new)
+      (λ now. Leaves p h m old (λ w st. then_do (eval p w (place_of h) true (expr_of e) st) (λ v st. then_do (asked v st) (one_of p w (place_of h) (stmt_of of)))) now m new) (λ now l. l p h m) f)

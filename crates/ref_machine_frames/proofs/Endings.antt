@@ -19,6 +19,6 @@ pub left_block : (a : ℕ) (v : Vec TStmt Global) (of : TStmt) (ss : List TStmt)
 left_block a v of ss old new is items e =
     e ∙ ap (λ xs. without a xs old) (ap (λ ss. declared_in (stmts_of ss)) items ∙ (ap locals_of (sym (block_is v)) ∙ ap (λ s. locals_of (stmt_of s)) (sym is)))
 
-pub left_for : (a : ℕ) (v : Vec TStmt Global) (test step : Option TExpr) (body : Box TStmt Global) (of : TStmt) (ss : List TStmt) (old new : Objects) → of ≡ For v test step body → ss ≡ v.items → new ≡ without a (declared_in (stmts_of ss)) old → new ≡ without a (locals_of (stmt_of of)) old
+pub left_for : (a : ℕ) (v : Vec TStmt Global) (test step : Option (Box TExpr Global)) (body : Box TStmt Global) (of : TStmt) (ss : List TStmt) (old new : Objects) → of ≡ For v test step body → ss ≡ v.items → new ≡ without a (declared_in (stmts_of ss)) old → new ≡ without a (locals_of (stmt_of of)) old
 left_for a v test step body of ss old new is items e =
     e ∙ ap (λ xs. without a xs old) (ap (λ ss. declared_in (stmts_of ss)) items ∙ (ap locals_of (sym (for_is v test step body)) ∙ ap (λ s. locals_of (stmt_of s)) (sym is)))

@@ -6,29 +6,29 @@ use Rattle.dm_base.specs.declared.mode.Mode.TheVariants.{Plain}
 use Rattle.dm_base.specs.declared.verdict.Status.{Status}
 use Rattle.dm_base.specs.declared.verdict.Status.TheVariants as statuses
 use Rattle.dm_io.specs.Store.{Files}
-use Rattle.tool_selftest.proofs.FileLemmas.{audit_ready, audit_apart, audit_status, audit_made}
-use Rattle.tool_selftest.specs.Audit.{IsAuditStatus}
+use Rattle.tool_audit.proofs.FileLemmas.{audit_ready, audit_apart, audit_status, audit_made}
+use Rattle.tool_audit.specs.Audit.{IsAuditStatus}
 use Rattle.certify_facts.specs.declared.fact.Judge.{Judge as CertifiedModel}
 use Rattle.certify_facts.specs.declared.fact.Judge.TheVariants as judges
 use Rattle.flow_model.specs.declared.which.Which.{Which}
 use Rattle.flow_model.specs.declared.which.Which.TheVariants as whiches
 use Rattle.report.specs.VerdictLine.{word_of}
 use Rattle.tool_fleet.proofs.FileLemmas.{fleet_ready, fleet_apart, fleet_status}
-use Rattle.tool_certify.proofs.CertifyFiles.{certify_ready, certify_apart, certify_status}
-use Rattle.tool_certify.proofs.FileLemmas.{confirm_ready, confirm_apart, confirm_status}
-use Rattle.tool_inline.proofs.DepthLemmas.{depth_ready, depth_apart, depth_status}
-use Rattle.tool_inline.proofs.InlineLemmas.{inline_ready, inline_apart, inline_status}
+use Rattle.tool_reading.proofs.CertifyFiles.{certify_ready, certify_apart, certify_status}
+use Rattle.tool_reading.proofs.FileLemmas.{confirm_ready, confirm_apart, confirm_status}
+use Rattle.tool_reading.proofs.DepthLemmas.{depth_ready, depth_apart, depth_status}
+use Rattle.tool_reading.proofs.InlineLemmas.{inline_ready, inline_apart, inline_status}
 use Rattle.tool_instrument.proofs.FileLemmas.{instrument_ready, instrumented_apart, instrument_status}
 use Rattle.tool_monitors.specs.declared.asked.Asked.{Asked}
 use Rattle.tool_monitors.specs.declared.asked.Asked.TheVariants as asked
 use Rattle.tool_monitors.specs.Monitors.{asked_word, monitors_of}
 use Rattle.tool_files.proofs.InputLemmas.{judge_ready, judge_status}
 use Rattle.tool_models.proofs.FileLemmas.{watch_ready, upgrade_ready, judged_apart, measured_apart, watched_apart, upgrade_or_refused, watch_status, upgrade_status}
-use Rattle.tool_reading.proofs.FileLemmas.{picture_ready, picture_apart, picture_status}
-use Rattle.tool_run.proofs.FileLemmas.{run_ready, run_apart, run_status}
-use Rattle.tool_explain.proofs.ExplainLemmas.{explain_ready, explained_apart, explain_status}
-use Rattle.tool_sites.proofs.FileLemmas.{sites_ready, sites_apart}
-use Rattle.tool_explain.proofs.FileLemmas.{check_ready, checked_apart, check_status, model_ready, modelled_apart, model_status}
+use Rattle.tool_reading.proofs.PictureFiles.{picture_ready, picture_apart, picture_status}
+use Rattle.tool_texts.proofs.RunFiles.{run_ready, run_apart, run_status}
+use Rattle.tool_texts.proofs.ExplainLemmas.{explain_ready, explained_apart, explain_status}
+use Rattle.tool_texts.proofs.SitesFiles.{sites_ready, sites_apart}
+use Rattle.tool_texts.proofs.TextFiles.{check_ready, checked_apart, check_status, model_ready, modelled_apart, model_status}
 use Rattle.tool_words.specs.Command.{Command, IsCommandLine, IsAskedBy, judge_word}
 use Rattle.tool_words.specs.Command.{FileCommand, TraceCommand, file_word, trace_word, WordCommand, command_word}
 use Rattle.tool_words.specs.Command.FileCommand.{Check, Depth, Explain, Inline, Instrument, Model, Picture, Sites, Upgrade}

@@ -11,14 +11,14 @@ use Rattle.tool_words.specs.Command.FileCommand.{Check, Depth, Explain, Inline, 
 use Rattle.tool_words.specs.Command.Command.{Version, OfWord, OfFile, OfTrace, Measure, Fleet, Run, Audit, Confirm, Certify, Selftest}
 use Rattle.tool_words.specs.Command.WordCommand.{Help, Codes}
 use Rattle.tool_words.specs.Command.TraceCommand.{Expected, Judge, Watch}
-use Rattle.tool_certify.specs.Certify.{TellsCertificate, RefusesToCertify, IsReadyToCertify}
-use Rattle.tool_certify.specs.Confirm.{TellsConfirmed, RefusesToConfirm, LacksToConfirm, IsReadyToConfirm}
-use Rattle.tool_selftest.specs.Audit.{Audits, IsAuditStatus, RefusesToAudit, LacksToAudit, IsReadyToAudit}
+use Rattle.tool_reading.specs.Certify.{TellsCertificate, RefusesToCertify, IsReadyToCertify}
+use Rattle.tool_reading.specs.Confirm.{TellsConfirmed, RefusesToConfirm, LacksToConfirm, IsReadyToConfirm}
+use Rattle.tool_audit.specs.Audit.{Audits, IsAuditStatus, RefusesToAudit, LacksToAudit, IsReadyToAudit}
 use Rattle.tool_instrument.specs.Instrument.{Instruments, RefusesToInstrument, IsReadyToInstrument}
 use Rattle.tool_fleet.specs.Fleet.{RunsFleet, RefusesFleet, LacksForFleet, IsReadyForFleet}
-use Rattle.tool_inline.specs.Depth.{TellsDepth, IsReadyToTellDepth}
-use Rattle.tool_inline.specs.Inline.{Inlines, RefusesToInline, IsReadyToInline}
-use Rattle.tool_expected.specs.Expects.{Expects}
+use Rattle.tool_reading.specs.Depth.{TellsDepth, IsReadyToTellDepth}
+use Rattle.tool_reading.specs.Inline.{Inlines, RefusesToInline, IsReadyToInline}
+use Rattle.tool_reading.specs.Expects.{Expects}
 use Rattle.tool_models.specs.Judge.{Judges}
 use Rattle.tool_files.specs.Inputs.{RefusesModel, RefusesToJudge, LacksToJudge, IsReadyToJudge}
 use Rattle.tool_models.specs.Measure.{Measures}
@@ -26,13 +26,13 @@ use Rattle.tool_monitors.specs.Monitors.{monitors_of}
 use Rattle.tool_models.specs.Upgrade.{Upgrades, RefusesToUpgrade, IsReadyToUpgrade}
 use Rattle.tool_models.specs.Watch.{Watches, RefusesToWatch, IsReadyToWatch}
 use Rattle.tool_reading.specs.Picture.{Pictures, RefusesToPicture, IsReadyToPicture}
-use Rattle.tool_run.specs.Run.{Runs, RefusesToRun, LacksToRun, IsReadyToRun}
-use Rattle.tool_selftest.specs.Selftest.{TellsSelftest}
-use Rattle.tool_explain.specs.Explained.{RefusesToExplain}
-use Rattle.tool_sites.specs.Sites.{TellsSites, IsReadyToTellSites}
-use Rattle.tool_explain.specs.Check.{Checks, IsReadyToCheck}
-use Rattle.tool_explain.specs.Modelled.{Models, RefusesToModel, IsReadyToModel}
-use Rattle.tool_explain.specs.Sources.{RefusesSource}
+use Rattle.tool_texts.specs.Run.{Runs, RefusesToRun, LacksToRun, IsReadyToRun}
+use Rattle.tool_audit.specs.Selftest.{TellsSelftest}
+use Rattle.tool_texts.specs.Explained.{RefusesToExplain}
+use Rattle.tool_texts.specs.Sites.{TellsSites, IsReadyToTellSites}
+use Rattle.tool_texts.specs.Check.{Checks, IsReadyToCheck}
+use Rattle.tool_texts.specs.Modelled.{Models, RefusesToModel, IsReadyToModel}
+use Rattle.tool_texts.specs.Sources.{RefusesSource}
 
 abbrev pub version_text : List ℕ
 version_text = codes "dyckmon 1\n"

@@ -1,6 +1,6 @@
-ghost use Rattle.tool_selftest.specs.Headline.{TheHeadline};
+ghost use Rattle.tool_audit.specs.Headline.{TheHeadline};
 
-use tool_selftest::texts_keep_the_headline;
+use tool_audit::texts_keep_the_headline;
 
 /// The headline of the tool, on definitions alone: for every C text that the checker accepts, all recorded results and every bound of
 /// turns, the instrumented program does what the plain one does once null calls are erased; the program's models contain the trace of

@@ -8,18 +8,16 @@ ghost use Rattle.tool_frame.specs.Stop.{IsFinished};
 use dm_base::{OutOfMemory, Status};
 use dm_io::{HonestSink, HonestStore, Sink, Store, write_whole};
 use std::alloc::Global;
-use tool_certify::{certify_trace, confirm_certificate};
-use tool_expected::expected_command;
-use tool_explain::{check_source, explain_source, model_of_source};
+use tool_audit::{audit_source, self_test};
 use tool_fleet::run_fleet;
 use tool_frame::{Finished, Stop, refuse};
-use tool_inline::{depth_of_model, inlined_model};
 use tool_instrument::instrument_source;
 use tool_models::{judge, measure, upgrade, watch_traces};
-use tool_reading::{picture_of_model, tell_codes};
-use tool_run::run_source;
-use tool_selftest::{audit_source, self_test};
-use tool_sites::sites_of_source;
+use tool_reading::{
+    certify_trace, confirm_certificate, depth_of_model, expected_command, inlined_model,
+    picture_of_model, tell_codes,
+};
+use tool_texts::{check_source, explain_source, model_of_source, run_source, sites_of_source};
 use tool_words::{Command, command_of};
 
 const VERSION_TEXT: &[u8] = b"dyckmon 1\n";

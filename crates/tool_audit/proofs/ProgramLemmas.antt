@@ -29,7 +29,7 @@ use Rattle.null_calls_laws.specs.Instrumented.{instrumented_unit}
 use Rattle.tool_steps.specs.Run.{Run as Found}
 use Rattle.tool_steps.specs.WholeRuns.{run_of}
 use Rattle.tool_steps.specs.Results.{run_text}
-use Rattle.tool_steps.specs.Source.{Source}
+use Rattle.tool_steps.specs.declared.source.Source.{Source}
 use Rattle.tool_steps.specs.Sources.{IsSourceOf}
 use Rattle.tool_steps.proofs.SourceLemmas.{one_typing, source_accepted}
 use Rattle.sys_table.specs.declared.sys_result.SysResult.{SysResult}

@@ -10,7 +10,7 @@ use Rattle.c_tree.specs.View.{program_of}
 use Rattle.c_meaning.specs.GraphOfProgram.{graph_of_program}
 use Rattle.tool_steps.specs.Results.{AreSomeResults}
 use Rattle.tool_steps.specs.ResultsStops.{RefusesResultsAlone}
-use Rattle.tool_steps.specs.Source.{Source}
+use Rattle.tool_steps.specs.declared.source.Source.{Source}
 use Rattle.tool_steps.specs.Sources.{IsSourceOf, RefusesSource}
 use Rattle.tool_steps.proofs.SourceLemmas.{source_accepted}
 use Rattle.sys_table.specs.declared.sys_result.SysResult.{SysResult}

@@ -1,9 +1,11 @@
 pub mod Audit
 pub mod Heard
 pub mod Stopping
+pub mod Selftest
+pub mod Summary
 pub use Rattle.headline.specs.AcceptedRuns
 pub use Rattle.headline.specs.Headline
-pub use Rattle.tool_steps.specs.WholeRuns
+pub use Rattle.tool_steps.specs.declared.source.Source
+pub use Rattle.tool_steps.specs.declared.error.SourceError
 pub use Rattle.tool_steps.specs.Sources
-pub use Rattle.tool_steps.specs.SourceError
-pub use Rattle.tool_steps.specs.Source
+pub use Rattle.tool_steps.specs.WholeRuns

@@ -28,7 +28,7 @@ use Rattle.tool_fleet.specs.Inputs.{AreRead, HasGroup, IsGroupModel, IsRead, Lac
 use Rattle.tool_fleet.proofs.StopLemmas.{both_told, model_stops, stops_weaker, told_so}
 use Rattle.tool_frame.specs.declared.stop.Stop.{Stop}
 use Rattle.tool_frame.specs.Stop.{Stops}
-use Rattle.tool_steps.specs.Source.{Source}
+use Rattle.tool_steps.specs.declared.source.Source.{Source}
 use Rattle.tool_steps.specs.Sources.{IsSourceOf, RefusesSource}
 use Rattle.tool_steps.proofs.SourceLemmas.{source_accepted}
 

@@ -8,7 +8,7 @@ use Rattle.c_syntax.specs.UnitView.{items_of}
 use Rattle.c_tree.specs.Tree.{Program}
 use Rattle.c_tree.specs.View.{program_of}
 use Rattle.null_calls_laws.specs.Instrumented.{instrumented_unit}
-use Rattle.tool_steps.specs.Source.{Source}
+use Rattle.tool_steps.specs.declared.source.Source.{Source}
 use Rattle.tool_steps.specs.Sources.{IsSourceOf}
 use Rattle.tool_frame.specs.declared.stop.Stop.{Stop}
 use Rattle.tool_frame.specs.declared.stop.Stop.TheVariants as stops

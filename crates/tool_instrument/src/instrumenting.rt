@@ -53,7 +53,7 @@ fn printed(alloc: Global, source: &Source, items: Vec<Item>) -> Result<Vec<u8>, 
 ///
 /// # Errors
 ///
-/// `Source` where the text is refused, as `tool_sources::source_in` says, or where its instrumented text would have more than 16 MiB, which is
+/// `Source` where the text is refused, as `tool_steps::source_in` says, or where its instrumented text would have more than 16 MiB, which is
 /// known before that text is made; `Read` where a read failed, and `OutOfMemory`.
 pub fn instrument_source<S: Store>(
     alloc: Global,

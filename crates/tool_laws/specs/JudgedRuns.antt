@@ -7,7 +7,7 @@ use Rattle.tool_monitors.specs.declared.asked.Asked.{Asked}
 use Rattle.tool_monitors.specs.declared.asked.Asked.TheVariants as asked
 use Rattle.tool_models.specs.Judge.{Judges}
 use Rattle.tool_monitors.specs.Monitors.{monitors_of}
-use Rattle.tool_run.specs.Run.{Runs}
+use Rattle.tool_texts.specs.Run.{Runs}
 use Rattle.tool_texts.specs.Modelled.{Models}
 
 -- the callgraph monitor or the stack monitor is asked for

@@ -1,2 +1,11 @@
+pub mod ExpectsLemmas
+pub mod FindingsLemmas
+pub mod CertificateFiles
+pub mod CertifyFiles
+pub mod CertifyLemmas
+pub mod ConfirmLemmas
 pub mod FileLemmas
+pub mod PictureFiles
 pub mod PictureLemmas
+pub mod DepthLemmas
+pub mod InlineLemmas

@@ -8,7 +8,7 @@ use Rattle.model_file.specs.ModelText.{model_text}
 use Rattle.model_file.specs.Refusal.{longest}
 use Rattle.tool_frame.specs.declared.stop.Stop.{Stop}
 use Rattle.tool_frame.specs.declared.stop.Stop.TheVariants as stops
-use Rattle.tool_sources.specs.declared.source.Source.{Source}
+use Rattle.tool_steps.specs.declared.source.Source.{Source}
 use Rattle.tool_steps.specs.ModelTexts.{HasLanguagesOf, IsModelText, IsModelOf, IsPastLimit, many_nodes, long_text}
 use Rattle.tool_steps.specs.ModelStops.{IsStopBy, StopsBuilding, StopsModelling, StopsWriting}
 

@@ -1,6 +1,6 @@
 ghost use Rattle.std.specs.Prelude.{OnOk};
-ghost use Rattle.c_syntax.specs.UnitView.{storage_of, init_of, parts_of, maybe_init_of, decl_of, maybe_of};
-ghost use Rattle.c_syntax.specs.View.{declarator_of};
+ghost use Rattle.c_syntax.specs.UnitView.{storage_of, init_of, parts_of, maybe_init_of, decl_of};
+ghost use Rattle.c_syntax.specs.View.{declarator_of, expr_behind};
 ghost use Rattle.c_syntax.specs.Print.{storage_kinds, init_kinds, inits_kinds, part_kinds, parts_kinds, decl_kinds, maybe_kinds};
 ghost use Rattle.c_syntax.specs.Writes.{Writes};
 ghost use Rattle.c_syntax.specs.WritesUnit.{inits_of};
@@ -24,8 +24,8 @@ pub fn write_storage(out: &mut Vec<u8>, storage: Storage) -> Result<(), OutOfMem
 }
 
 // Writes the expression, where one stands.
-pub fn write_maybe(out: &mut Vec<u8>, e: &Option<Expr>) -> Result<(), OutOfMemory>
-    ensures { OnOk result (Writes out.old.items out.new.items (maybe_kinds (maybe_of e.now))) }
+pub fn write_maybe(out: &mut Vec<u8>, e: &Option<Box<Expr>>) -> Result<(), OutOfMemory>
+    ensures { OnOk result (Writes out.old.items out.new.items (maybe_kinds (expr_behind e.now))) }
 {
     match e {
         None => Ok(()),

@@ -1,7 +1,7 @@
 ghost use Rattle.std.specs.Prelude.{◌<◌, OnOk};
-ghost use Rattle.c_syntax.specs.UnitView.{first_of_head, maybe_of, labels_of, stmt_of, block_item_before, group_before};
+ghost use Rattle.c_syntax.specs.UnitView.{first_of_head, labels_of, stmt_of, block_item_before, group_before};
 ghost use Rattle.c_syntax.specs.Tree.{no_block_items, no_groups};
-ghost use Rattle.c_syntax.specs.View.{expr_of};
+ghost use Rattle.c_syntax.specs.View.{expr_behind, expr_of};
 ghost use Rattle.c_syntax.specs.Print.{first_kinds, labels_kinds, stmt_kinds, block_items_kinds, stmts_kinds, groups_kinds};
 ghost use Rattle.c_syntax.specs.Writes.{Writes};
 ghost use Rattle.c_syntax.specs.WritesUnit.{block_items_of, stmts_of, groups_of, else_behind, else_kinds, for_kinds, worded_kinds, jump_kinds, return_kinds, label_kinds};
@@ -34,10 +34,10 @@ fn write_first(out: &mut Vec<u8>, first: &ForFirst) -> Result<(), OutOfMemory>
 fn write_for_head(
     out: &mut Vec<u8>,
     first: &ForFirst,
-    test: &Option<Expr>,
-    step: &Option<Expr>,
+    test: &Option<Box<Expr>>,
+    step: &Option<Box<Expr>>,
 ) -> Result<(), OutOfMemory>
-    ensures { OnOk result (Writes out.old.items out.new.items (for_kinds (first_of_head first.now) (maybe_of test.now) (maybe_of step.now))) }
+    ensures { OnOk result (Writes out.old.items out.new.items (for_kinds (first_of_head first.now) (expr_behind test.now) (expr_behind step.now))) }
 {
     push_keyword(out, FOR)?;
     push_punctuator(out, LEFT_PARENTHESIS)?;
@@ -69,8 +69,8 @@ fn write_jump(out: &mut Vec<u8>, keyword: u8) -> Result<(), OutOfMemory>
 }
 
 // Writes a `return`.
-fn write_return(out: &mut Vec<u8>, e: &Option<Expr>) -> Result<(), OutOfMemory>
-    ensures { OnOk result (Writes out.old.items out.new.items (return_kinds (maybe_of e.now))) }
+fn write_return(out: &mut Vec<u8>, e: &Option<Box<Expr>>) -> Result<(), OutOfMemory>
+    ensures { OnOk result (Writes out.old.items out.new.items (return_kinds (expr_behind e.now))) }
 {
     push_keyword(out, RETURN)?;
     write_maybe(out, e)?;

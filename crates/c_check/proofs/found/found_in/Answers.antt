@@ -1,7 +1,7 @@
 use Rattle.std.proofs.Common.{◌≡◌, ap, subst, sym, ◌∙◌}
 use Rattle.c_check_values.proofs.Parts.{names_on, raised}
 use Rattle.c_check_values.specs.Agreement.{Names}
-use Rattle.c_check_items.specs.OutputView.{output_of}
+use Rattle.c_check.specs.OutputView.{output_of}
 use Rattle.c_rules.specs.Checked.{Checked, Met, faults, on}
 use Rattle.c_rules.specs.Items.{Output, items}
 use Rattle.c_rules.specs.Scopes.{nothing_before}

@@ -33,7 +33,7 @@ add_statements-returns t c =
 pub add_statement-returns-in_ok-add_expression-in-Switch : goal.add_statement-returns-in_ok-add_expression-in-Switch
 add_statement-returns-in_ok-add_expression-in-Switch t c =
     then_on c.add_groups.result c.args.into.now.items c.add_expression-in-Switch.new.into.items c.add_groups.new.into.items
-    (places (expr_of c.in-Switch.on)) (places_of_groups (groups_of c.deref-in-Switch.result.now)) (places_of_stmt (stmt_of c.args.s.now))
+    (places (expr_of c.deref-in-Switch.result.now)) (places_of_groups (groups_of c.deref-in-Switch-2.result.now)) (places_of_stmt (stmt_of c.args.s.now))
     c.in_ok-add_expression-in-Switch.ensures
-    (in_switch c.args.s.now c.in-Switch.on c.in-Switch.groups c.in-Switch.is ∙ ap (λ gs. places (expr_of c.in-Switch.on) ++ places_of_groups (groups_of gs)) (sym c.deref-in-Switch.ensures.value))
+    (in_switch c.args.s.now c.in-Switch.on c.in-Switch.groups c.in-Switch.is ∙ (λ i. places (expr_of (sym c.deref-in-Switch.ensures i)) ++ places_of_groups (groups_of (sym c.deref-in-Switch-2.ensures.value i))))
     c.add_groups.ensures

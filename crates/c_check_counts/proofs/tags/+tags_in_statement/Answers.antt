@@ -18,9 +18,9 @@ add_statement-returns-in-Block t c =
 
 pub add_statement-returns-in_ok-add_expr-in-Switch : goal.add_statement-returns-in_ok-add_expr-in-Switch
 add_statement-returns-in_ok-add_expr-in-Switch t c =
-    then_on c.add_groups.result (seen c.args.into.now.items) (seen c.add_expr-in-Switch.new.into.items) (seen c.add_groups.new.into.items) (tags_of_expr (expr_of c.in-Switch.on)) (tags_of_groups c.args.aside (groups_of c.deref-in-Switch.result.now)) (tags_of_stmt c.args.aside (stmt_of c.args.s.now))
+    then_on c.add_groups.result (seen c.args.into.now.items) (seen c.add_expr-in-Switch.new.into.items) (seen c.add_groups.new.into.items) (tags_of_expr (expr_of c.deref-in-Switch.result.now)) (tags_of_groups c.args.aside (groups_of c.deref-in-Switch-2.result.now)) (tags_of_stmt c.args.aside (stmt_of c.args.s.now))
     c.in_ok-add_expr-in-Switch.ensures
-    (of_switch c.args.aside c.args.s.now c.in-Switch.on c.in-Switch.groups c.in-Switch.is ∙ ap (λ gs. tags_of_expr (expr_of c.in-Switch.on) ++ tags_of_groups c.args.aside (groups_of gs)) (sym c.deref-in-Switch.ensures.value))
+    (of_switch c.args.aside c.args.s.now c.in-Switch.on c.in-Switch.groups c.in-Switch.is ∙ (λ i. tags_of_expr (expr_of (sym c.deref-in-Switch.ensures i)) ++ tags_of_groups c.args.aside (groups_of (sym c.deref-in-Switch-2.ensures.value i))))
     c.add_groups.ensures
 
 pub add_group-returns : goal.add_group-returns

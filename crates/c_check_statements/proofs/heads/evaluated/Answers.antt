@@ -19,7 +19,7 @@ returns-in_err-tree-clause-judged c =
 
 pub returns : goal.returns
 returns c = record {
-  judged = found_as statement_tree_of c.found.result _ _ (then_given (value (env_of c.args.env.now) (before_of c.args.before.now) (expr_of c.args.e.now)) tree_of (λ t. bare (evaluate t)) (tree_seen c.in_ok-tree.tree) c.in_ok-tree.ensures.judged) (c.found.ensures _ c.bare.ensures);
+  judged = found_as statement_tree_of c.found.result _ _ (then_given (value (env_of c.args.env.now) (before_of c.args.before.now) (expr_of c.args.e.now)) tree_of (λ t. bare (evaluate t)) (tree_seen c.in_ok-tree.tree) c.in_ok-tree.ensures.judged) (c.found.ensures _ c.expression_statement.ensures);
   counted = on_ok c.found.result _ c.in_ok-tree.ensures.counted;
   kept = on_ok c.found.result _ c.in_ok-tree.ensures.kept;
 }

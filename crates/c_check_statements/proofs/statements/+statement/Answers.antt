@@ -29,9 +29,9 @@ use Rattle.c_check_statements.proofs.StatementLemmas.{more_none, item_counted, i
 use Rattle.c_check_statements.proofs.SwitchLemmas.{none_behind, group_counted, group_fails, group_more, group_names, groups_names, groups_start, names_past, onto_groups}
 use Rattle.c_check_statements.proofs.statements.+statement.Goals as goal
 use Rattle.c_syntax.specs.declared.tree.BlockItem.TheViews.{the_lemmas}
-use Rattle.c_syntax.specs.Tree.{block, do_loop, for_loop, if_else, switch_on, while_loop}
-use Rattle.c_syntax.specs.UnitView.{decl_of, first_of_head, if_with, labels_of as labels_seen, maybe_of, stmt_at, stmt_of}
-use Rattle.c_syntax.specs.View.{expr_of}
+use Rattle.c_syntax.specs.Tree.{block, do_loop, evaluate, for_loop, if_else, switch_on, while_loop}
+use Rattle.c_syntax.specs.UnitView.{decl_of, first_of_head, if_with, labels_of as labels_seen, stmt_at, stmt_of}
+use Rattle.c_syntax.specs.View.{expr_behind, expr_of}
 use Rattle.c_syntax.specs.WritesUnit.{block_items_of, else_behind, groups_of, stmts_of}
 use Rattle.c_tree.specs.Tree as typed
 use Rattle.c_tree.specs.View.{expr_of as expr_seen}
@@ -107,32 +107,32 @@ do_statement-returns t c = record {
 
 pub for_statement-returns-in_err-laid-clause-judged : goal.for_statement-returns-in_err-laid-clause-judged
 for_statement-returns-in_err-laid-clause-judged t c =
-    raised statement_tree_of (stmt (env_of c.args.env.now) (around_of c.args.around.now) (before_of c.args.before.now) (next_of c.args.next.now) (for_loop c.args.at (first_of_head c.args.first.now) (maybe_of c.args.test.now) (maybe_of c.args.step.now) (stmt_of c.args.body.now))) c.from_residual-in_err-laid.result c.in_err-laid.field-0.0 c.from_residual-in_err-laid.ensures (subst (λ v. Names c.in_err-laid.field-0.0 (faults (for_inside v (around_of c.args.around.now) (before_of c.args.before.now) (next_of c.args.next.now) c.args.at (first_of_head c.args.first.now) (maybe_of c.args.test.now) (maybe_of c.args.step.now) (stmt_of c.args.body.now)))) (ap env_of c.in_ok-depth.ensures.entered) c.in_err-laid.ensures.judged)
+    raised statement_tree_of (stmt (env_of c.args.env.now) (around_of c.args.around.now) (before_of c.args.before.now) (next_of c.args.next.now) (for_loop c.args.at (first_of_head c.args.first.now) (expr_behind c.args.test.now) (expr_behind c.args.step.now) (stmt_of c.args.body.now))) c.from_residual-in_err-laid.result c.in_err-laid.field-0.0 c.from_residual-in_err-laid.ensures (subst (λ v. Names c.in_err-laid.field-0.0 (faults (for_inside v (around_of c.args.around.now) (before_of c.args.before.now) (next_of c.args.next.now) c.args.at (first_of_head c.args.first.now) (expr_behind c.args.test.now) (expr_behind c.args.step.now) (stmt_of c.args.body.now)))) (ap env_of c.in_ok-depth.ensures.entered) c.in_err-laid.ensures.judged)
 
 pub for_statement-returns : goal.for_statement-returns
 for_statement-returns t c = record {
-  judged = ap (λ v. for_inside v (around_of c.args.around.now) (before_of c.args.before.now) (next_of c.args.next.now) c.args.at (first_of_head c.args.first.now) (maybe_of c.args.test.now) (maybe_of c.args.step.now) (stmt_of c.args.body.now)) (sym (ap env_of c.in_ok-depth.ensures.entered)) ∙ c.in_ok-laid.ensures.judged;
-  counted = c.in_ok-laid.ensures.counted ∙ (ap (λ v. after_for v (before_of c.args.before.now) (next_of c.args.next.now) (first_of_head c.args.first.now) (maybe_of c.args.test.now) (maybe_of c.args.step.now) (stmt_of c.args.body.now)) (ap env_of c.in_ok-depth.ensures.entered) ∙ after_parts (inside (env_of c.args.env.now)) (before_of c.args.before.now) (next_of c.args.next.now) (first_of_head c.args.first.now) (maybe_of c.args.test.now) (maybe_of c.args.step.now) (stmt_of c.args.body.now));
+  judged = ap (λ v. for_inside v (around_of c.args.around.now) (before_of c.args.before.now) (next_of c.args.next.now) c.args.at (first_of_head c.args.first.now) (expr_behind c.args.test.now) (expr_behind c.args.step.now) (stmt_of c.args.body.now)) (sym (ap env_of c.in_ok-depth.ensures.entered)) ∙ c.in_ok-laid.ensures.judged;
+  counted = c.in_ok-laid.ensures.counted ∙ (ap (λ v. after_for v (before_of c.args.before.now) (next_of c.args.next.now) (first_of_head c.args.first.now) (expr_behind c.args.test.now) (expr_behind c.args.step.now) (stmt_of c.args.body.now)) (ap env_of c.in_ok-depth.ensures.entered) ∙ after_parts (inside (env_of c.args.env.now)) (before_of c.args.before.now) (next_of c.args.next.now) (first_of_head c.args.first.now) (expr_behind c.args.test.now) (expr_behind c.args.step.now) (stmt_of c.args.body.now));
   numbered = c.in_ok-laid.ensures.numbered;
   kept = c.leave_block.ensures c.args.env.now (declared_deeper c.args.env.now c.for_parts.new.env c.enter_block.new.env c.in_ok-depth.ensures.entered c.in_ok-laid.ensures.kept) (sym c.len-count.ensures) (sym c.in_ok-depth.ensures.before);
 }
 
 pub for_parts-returns-in_err-head-clause-judged : goal.for_parts-returns-in_err-head-clause-judged
 for_parts-returns-in_err-head-clause-judged t c =
-    fails_first_of statement_tree_of c.from_residual.result c.in_err-head.field-0.0 (for_inside (env_of c.args.env.now) (around_of c.args.around.now) (before_of c.args.before.now) (next_of c.args.next.now) c.args.at (first_of_head c.args.first.now) (maybe_of c.args.test.now) (maybe_of c.args.step.now) (stmt_of c.args.body.now)) (first_of (env_of c.args.env.now) (before_of c.args.before.now) (next_of c.args.next.now) (first_of_head c.args.first.now)) (beside (test_of (behind_first (env_of c.args.env.now) (next_of c.args.next.now) (first_of_head c.args.first.now)) (after_first (env_of c.args.env.now) (before_of c.args.before.now) (next_of c.args.next.now) (first_of_head c.args.first.now)) c.args.at (maybe_of c.args.test.now)) (step_of (behind_first (env_of c.args.env.now) (next_of c.args.next.now) (first_of_head c.args.first.now)) (after_maybe (after_first (env_of c.args.env.now) (before_of c.args.before.now) (next_of c.args.next.now) (first_of_head c.args.first.now)) (maybe_of c.args.test.now)) (maybe_of c.args.step.now))) (stmt (behind_first (env_of c.args.env.now) (next_of c.args.next.now) (first_of_head c.args.first.now)) (in_loop (around_of c.args.around.now)) (after_maybe (after_maybe (after_first (env_of c.args.env.now) (before_of c.args.before.now) (next_of c.args.next.now) (first_of_head c.args.first.now)) (maybe_of c.args.test.now)) (maybe_of c.args.step.now)) (past_names (next_of c.args.next.now) (names_of_first (first_of_head c.args.first.now))) (stmt_of c.args.body.now)) (λ p tests q. fine (for_of p tests q)) c.from_residual.ensures refl c.in_err-head.ensures.judged
+    fails_first_of statement_tree_of c.from_residual.result c.in_err-head.field-0.0 (for_inside (env_of c.args.env.now) (around_of c.args.around.now) (before_of c.args.before.now) (next_of c.args.next.now) c.args.at (first_of_head c.args.first.now) (expr_behind c.args.test.now) (expr_behind c.args.step.now) (stmt_of c.args.body.now)) (first_of (env_of c.args.env.now) (before_of c.args.before.now) (next_of c.args.next.now) (first_of_head c.args.first.now)) (beside (test_of (behind_first (env_of c.args.env.now) (next_of c.args.next.now) (first_of_head c.args.first.now)) (after_first (env_of c.args.env.now) (before_of c.args.before.now) (next_of c.args.next.now) (first_of_head c.args.first.now)) c.args.at (expr_behind c.args.test.now)) (step_of (behind_first (env_of c.args.env.now) (next_of c.args.next.now) (first_of_head c.args.first.now)) (after_maybe (after_first (env_of c.args.env.now) (before_of c.args.before.now) (next_of c.args.next.now) (first_of_head c.args.first.now)) (expr_behind c.args.test.now)) (expr_behind c.args.step.now))) (stmt (behind_first (env_of c.args.env.now) (next_of c.args.next.now) (first_of_head c.args.first.now)) (in_loop (around_of c.args.around.now)) (after_maybe (after_maybe (after_first (env_of c.args.env.now) (before_of c.args.before.now) (next_of c.args.next.now) (first_of_head c.args.first.now)) (expr_behind c.args.test.now)) (expr_behind c.args.step.now)) (past_names (next_of c.args.next.now) (names_of_first (first_of_head c.args.first.now))) (stmt_of c.args.body.now)) (λ p tests q. fine (for_of p tests q)) c.from_residual.ensures refl c.in_err-head.ensures.judged
 
 pub for_parts-returns-in_err-tests-clause-judged : goal.for_parts-returns-in_err-tests-clause-judged
 for_parts-returns-in_err-tests-clause-judged t c =
-    fails_second_of statement_tree_of c.from_residual-in_err-tests.result c.in_err-tests.field-0.0 (for_inside (env_of c.args.env.now) (around_of c.args.around.now) (before_of c.args.before.now) (next_of c.args.next.now) c.args.at (first_of_head c.args.first.now) (maybe_of c.args.test.now) (maybe_of c.args.step.now) (stmt_of c.args.body.now)) (first_of (env_of c.args.env.now) (before_of c.args.before.now) (next_of c.args.next.now) (first_of_head c.args.first.now)) (beside (test_of (behind_first (env_of c.args.env.now) (next_of c.args.next.now) (first_of_head c.args.first.now)) (after_first (env_of c.args.env.now) (before_of c.args.before.now) (next_of c.args.next.now) (first_of_head c.args.first.now)) c.args.at (maybe_of c.args.test.now)) (step_of (behind_first (env_of c.args.env.now) (next_of c.args.next.now) (first_of_head c.args.first.now)) (after_maybe (after_first (env_of c.args.env.now) (before_of c.args.before.now) (next_of c.args.next.now) (first_of_head c.args.first.now)) (maybe_of c.args.test.now)) (maybe_of c.args.step.now))) (beside (test_of (env_of c.first_of.new.env) (before_of c.first_of.new.before) c.args.at (maybe_of c.args.test.now)) (step_of (env_of c.first_of.new.env) (after_maybe (before_of c.first_of.new.before) (maybe_of c.args.test.now)) (maybe_of c.args.step.now))) (stmt (behind_first (env_of c.args.env.now) (next_of c.args.next.now) (first_of_head c.args.first.now)) (in_loop (around_of c.args.around.now)) (after_maybe (after_maybe (after_first (env_of c.args.env.now) (before_of c.args.before.now) (next_of c.args.next.now) (first_of_head c.args.first.now)) (maybe_of c.args.test.now)) (maybe_of c.args.step.now)) (past_names (next_of c.args.next.now) (names_of_first (first_of_head c.args.first.now))) (stmt_of c.args.body.now)) (λ p tests q. fine (for_of p tests q)) c.from_residual-in_err-tests.ensures refl (λ i. beside (test_of (c.in_ok-head.ensures.meant i) (c.in_ok-head.ensures.counted i) c.args.at (maybe_of c.args.test.now)) (step_of (c.in_ok-head.ensures.meant i) (after_maybe (c.in_ok-head.ensures.counted i) (maybe_of c.args.test.now)) (maybe_of c.args.step.now))) c.in_err-tests.ensures.judged
+    fails_second_of statement_tree_of c.from_residual-in_err-tests.result c.in_err-tests.field-0.0 (for_inside (env_of c.args.env.now) (around_of c.args.around.now) (before_of c.args.before.now) (next_of c.args.next.now) c.args.at (first_of_head c.args.first.now) (expr_behind c.args.test.now) (expr_behind c.args.step.now) (stmt_of c.args.body.now)) (first_of (env_of c.args.env.now) (before_of c.args.before.now) (next_of c.args.next.now) (first_of_head c.args.first.now)) (beside (test_of (behind_first (env_of c.args.env.now) (next_of c.args.next.now) (first_of_head c.args.first.now)) (after_first (env_of c.args.env.now) (before_of c.args.before.now) (next_of c.args.next.now) (first_of_head c.args.first.now)) c.args.at (expr_behind c.args.test.now)) (step_of (behind_first (env_of c.args.env.now) (next_of c.args.next.now) (first_of_head c.args.first.now)) (after_maybe (after_first (env_of c.args.env.now) (before_of c.args.before.now) (next_of c.args.next.now) (first_of_head c.args.first.now)) (expr_behind c.args.test.now)) (expr_behind c.args.step.now))) (beside (test_of (env_of c.first_of.new.env) (before_of c.first_of.new.before) c.args.at (expr_behind c.args.test.now)) (step_of (env_of c.first_of.new.env) (after_maybe (before_of c.first_of.new.before) (expr_behind c.args.test.now)) (expr_behind c.args.step.now))) (stmt (behind_first (env_of c.args.env.now) (next_of c.args.next.now) (first_of_head c.args.first.now)) (in_loop (around_of c.args.around.now)) (after_maybe (after_maybe (after_first (env_of c.args.env.now) (before_of c.args.before.now) (next_of c.args.next.now) (first_of_head c.args.first.now)) (expr_behind c.args.test.now)) (expr_behind c.args.step.now)) (past_names (next_of c.args.next.now) (names_of_first (first_of_head c.args.first.now))) (stmt_of c.args.body.now)) (λ p tests q. fine (for_of p tests q)) c.from_residual-in_err-tests.ensures refl (λ i. beside (test_of (c.in_ok-head.ensures.meant i) (c.in_ok-head.ensures.counted i) c.args.at (expr_behind c.args.test.now)) (step_of (c.in_ok-head.ensures.meant i) (after_maybe (c.in_ok-head.ensures.counted i) (expr_behind c.args.test.now)) (expr_behind c.args.step.now))) c.in_err-tests.ensures.judged
 
 pub for_parts-returns-in_err-laid-clause-judged : goal.for_parts-returns-in_err-laid-clause-judged
 for_parts-returns-in_err-laid-clause-judged t c =
-    fails_third_of statement_tree_of c.from_residual-in_err-laid.result c.in_err-laid.field-0.0 (for_inside (env_of c.args.env.now) (around_of c.args.around.now) (before_of c.args.before.now) (next_of c.args.next.now) c.args.at (first_of_head c.args.first.now) (maybe_of c.args.test.now) (maybe_of c.args.step.now) (stmt_of c.args.body.now)) (first_of (env_of c.args.env.now) (before_of c.args.before.now) (next_of c.args.next.now) (first_of_head c.args.first.now)) (beside (test_of (behind_first (env_of c.args.env.now) (next_of c.args.next.now) (first_of_head c.args.first.now)) (after_first (env_of c.args.env.now) (before_of c.args.before.now) (next_of c.args.next.now) (first_of_head c.args.first.now)) c.args.at (maybe_of c.args.test.now)) (step_of (behind_first (env_of c.args.env.now) (next_of c.args.next.now) (first_of_head c.args.first.now)) (after_maybe (after_first (env_of c.args.env.now) (before_of c.args.before.now) (next_of c.args.next.now) (first_of_head c.args.first.now)) (maybe_of c.args.test.now)) (maybe_of c.args.step.now))) (stmt (behind_first (env_of c.args.env.now) (next_of c.args.next.now) (first_of_head c.args.first.now)) (in_loop (around_of c.args.around.now)) (after_maybe (after_maybe (after_first (env_of c.args.env.now) (before_of c.args.before.now) (next_of c.args.next.now) (first_of_head c.args.first.now)) (maybe_of c.args.test.now)) (maybe_of c.args.step.now)) (past_names (next_of c.args.next.now) (names_of_first (first_of_head c.args.first.now))) (stmt_of c.args.body.now)) (stmt (env_of c.tests_of.new.env) (around_of c.in_loop-inner.result) (before_of c.tests_of.new.before) (next_of c.first_of.new.next) (stmt_of c.args.body.now)) (λ p tests q. fine (for_of p tests q)) c.from_residual-in_err-laid.ensures refl (λ i. stmt ((ap env_of c.in_ok-tests.ensures.kept ∙ c.in_ok-head.ensures.meant) i) (c.in_loop-inner.ensures i) ((c.in_ok-tests.ensures.counted ∙ ap (λ b. after_maybe (after_maybe b (maybe_of c.args.test.now)) (maybe_of c.args.step.now)) c.in_ok-head.ensures.counted) i) (c.in_ok-head.ensures.numbered i) (stmt_of c.args.body.now)) c.in_err-laid.ensures.judged
+    fails_third_of statement_tree_of c.from_residual-in_err-laid.result c.in_err-laid.field-0.0 (for_inside (env_of c.args.env.now) (around_of c.args.around.now) (before_of c.args.before.now) (next_of c.args.next.now) c.args.at (first_of_head c.args.first.now) (expr_behind c.args.test.now) (expr_behind c.args.step.now) (stmt_of c.args.body.now)) (first_of (env_of c.args.env.now) (before_of c.args.before.now) (next_of c.args.next.now) (first_of_head c.args.first.now)) (beside (test_of (behind_first (env_of c.args.env.now) (next_of c.args.next.now) (first_of_head c.args.first.now)) (after_first (env_of c.args.env.now) (before_of c.args.before.now) (next_of c.args.next.now) (first_of_head c.args.first.now)) c.args.at (expr_behind c.args.test.now)) (step_of (behind_first (env_of c.args.env.now) (next_of c.args.next.now) (first_of_head c.args.first.now)) (after_maybe (after_first (env_of c.args.env.now) (before_of c.args.before.now) (next_of c.args.next.now) (first_of_head c.args.first.now)) (expr_behind c.args.test.now)) (expr_behind c.args.step.now))) (stmt (behind_first (env_of c.args.env.now) (next_of c.args.next.now) (first_of_head c.args.first.now)) (in_loop (around_of c.args.around.now)) (after_maybe (after_maybe (after_first (env_of c.args.env.now) (before_of c.args.before.now) (next_of c.args.next.now) (first_of_head c.args.first.now)) (expr_behind c.args.test.now)) (expr_behind c.args.step.now)) (past_names (next_of c.args.next.now) (names_of_first (first_of_head c.args.first.now))) (stmt_of c.args.body.now)) (stmt (env_of c.tests_of.new.env) (around_of c.in_loop-inner.result) (before_of c.tests_of.new.before) (next_of c.first_of.new.next) (stmt_of c.args.body.now)) (λ p tests q. fine (for_of p tests q)) c.from_residual-in_err-laid.ensures refl (λ i. stmt ((ap env_of c.in_ok-tests.ensures.kept ∙ c.in_ok-head.ensures.meant) i) (c.in_loop-inner.ensures i) ((c.in_ok-tests.ensures.counted ∙ ap (λ b. after_maybe (after_maybe b (expr_behind c.args.test.now)) (expr_behind c.args.step.now)) c.in_ok-head.ensures.counted) i) (c.in_ok-head.ensures.numbered i) (stmt_of c.args.body.now)) c.in_err-laid.ensures.judged
 
 pub for_parts-returns : goal.for_parts-returns
 for_parts-returns t c = record {
-  judged = found_as statement_tree_of c.found.result _ _ ((λ i. all_three (c.in_ok-head.ensures.judged i) ((sym (λ i. beside (test_of (c.in_ok-head.ensures.meant i) (c.in_ok-head.ensures.counted i) c.args.at (maybe_of c.args.test.now)) (step_of (c.in_ok-head.ensures.meant i) (after_maybe (c.in_ok-head.ensures.counted i) (maybe_of c.args.test.now)) (maybe_of c.args.step.now))) ∙ c.in_ok-tests.ensures.judged) i) ((sym (λ i. stmt ((ap env_of c.in_ok-tests.ensures.kept ∙ c.in_ok-head.ensures.meant) i) (c.in_loop-inner.ensures i) ((c.in_ok-tests.ensures.counted ∙ ap (λ b. after_maybe (after_maybe b (maybe_of c.args.test.now)) (maybe_of c.args.step.now)) c.in_ok-head.ensures.counted) i) (c.in_ok-head.ensures.numbered i) (stmt_of c.args.body.now)) ∙ c.in_ok-laid.ensures.judged) i) (λ p tests q. fine (for_of p tests q)))) (c.found.ensures _ c.for_loop.ensures);
-  counted = on_ok c.found.result _ (c.in_ok-laid.ensures.counted ∙ (λ i. after_stmt ((ap env_of c.in_ok-tests.ensures.kept ∙ c.in_ok-head.ensures.meant) i) ((c.in_ok-tests.ensures.counted ∙ ap (λ b. after_maybe (after_maybe b (maybe_of c.args.test.now)) (maybe_of c.args.step.now)) c.in_ok-head.ensures.counted) i) (c.in_ok-head.ensures.numbered i) (stmt_of c.args.body.now)));
+  judged = found_as statement_tree_of c.found.result _ _ ((λ i. all_three (c.in_ok-head.ensures.judged i) ((sym (λ i. beside (test_of (c.in_ok-head.ensures.meant i) (c.in_ok-head.ensures.counted i) c.args.at (expr_behind c.args.test.now)) (step_of (c.in_ok-head.ensures.meant i) (after_maybe (c.in_ok-head.ensures.counted i) (expr_behind c.args.test.now)) (expr_behind c.args.step.now))) ∙ c.in_ok-tests.ensures.judged) i) ((sym (λ i. stmt ((ap env_of c.in_ok-tests.ensures.kept ∙ c.in_ok-head.ensures.meant) i) (c.in_loop-inner.ensures i) ((c.in_ok-tests.ensures.counted ∙ ap (λ b. after_maybe (after_maybe b (expr_behind c.args.test.now)) (expr_behind c.args.step.now)) c.in_ok-head.ensures.counted) i) (c.in_ok-head.ensures.numbered i) (stmt_of c.args.body.now)) ∙ c.in_ok-laid.ensures.judged) i) (λ p tests q. fine (for_of p tests q)))) (c.found.ensures _ c.for_loop.ensures);
+  counted = on_ok c.found.result _ (c.in_ok-laid.ensures.counted ∙ (λ i. after_stmt ((ap env_of c.in_ok-tests.ensures.kept ∙ c.in_ok-head.ensures.meant) i) ((c.in_ok-tests.ensures.counted ∙ ap (λ b. after_maybe (after_maybe b (expr_behind c.args.test.now)) (expr_behind c.args.step.now)) c.in_ok-head.ensures.counted) i) (c.in_ok-head.ensures.numbered i) (stmt_of c.args.body.now)));
   numbered = on_ok c.found.result _ (c.in_ok-laid.ensures.numbered ∙ (ap (λ n. past_names n (names_of_stmt (stmt_of c.args.body.now))) c.in_ok-head.ensures.numbered ∙ sym (names_append (next_of c.args.next.now) (names_of_first (first_of_head c.args.first.now)) (names_of_stmt (stmt_of c.args.body.now)))));
   kept = on_ok c.found.result _ (declared_as c.args.env.now c.first_of.new.env c.statement.new.env c.in_ok-head.ensures.kept (c.in_ok-laid.ensures.kept ∙ c.in_ok-tests.ensures.kept));
 }
@@ -305,8 +305,8 @@ statement-returns-in-Empty t c = record {
 
 pub statement-returns-in-Expr : goal.statement-returns-in-Expr
 statement-returns-in-Expr t c = record {
-  judged = subst (λ z. AgreesWith statement_tree_of c.evaluated.result (stmt (env_of c.args.env.now) (around_of c.args.around.now) (before_of c.args.before.now) (next_of c.args.next.now) z)) (ap (stmt_at c.args.s.now.at) (sym c.in-Expr.is)) c.evaluated.ensures.judged;
-  counted = subst (λ z. OnOk c.evaluated.result (before_of c.evaluated.new.before ≡ after_stmt (env_of c.args.env.now) (before_of c.args.before.now) (next_of c.args.next.now) z)) (ap (stmt_at c.args.s.now.at) (sym c.in-Expr.is)) c.evaluated.ensures.counted;
+  judged = subst (λ z. AgreesWith statement_tree_of c.evaluated.result (stmt (env_of c.args.env.now) (around_of c.args.around.now) (before_of c.args.before.now) (next_of c.args.next.now) z)) (ap (λ x. evaluate c.args.s.now.at (expr_of x)) c.deref-in-Expr.ensures ∙ ap (stmt_at c.args.s.now.at) (sym c.in-Expr.is)) c.evaluated.ensures.judged;
+  counted = subst (λ z. OnOk c.evaluated.result (before_of c.evaluated.new.before ≡ after_stmt (env_of c.args.env.now) (before_of c.args.before.now) (next_of c.args.next.now) z)) (ap (λ x. evaluate c.args.s.now.at (expr_of x)) c.deref-in-Expr.ensures ∙ ap (stmt_at c.args.s.now.at) (sym c.in-Expr.is)) c.evaluated.ensures.counted;
   numbered = on_ok c.evaluated.result _ (ap (λ z. past_names (next_of c.args.next.now) (names_of_stmt z)) (ap (stmt_at c.args.s.now.at) (sym c.in-Expr.is)));
   kept = c.evaluated.ensures.kept;
 }
@@ -337,57 +337,57 @@ statement-returns-in-Continue t c = record {
 
 pub statement-returns-in-While : goal.statement-returns-in-While
 statement-returns-in-While t c = record {
-  judged = subst (λ z. AgreesWith statement_tree_of c.while_statement.result (stmt (env_of c.args.env.now) (around_of c.args.around.now) (before_of c.args.before.now) (next_of c.args.next.now) z)) (ap (λ x. while_loop c.args.s.now.at (expr_of c.in-While.test) (stmt_of x)) c.deref-in-While.ensures ∙ ap (stmt_at c.args.s.now.at) (sym c.in-While.is)) c.while_statement.ensures.judged;
-  counted = subst (λ z. OnOk c.while_statement.result (before_of c.while_statement.new.before ≡ after_stmt (env_of c.args.env.now) (before_of c.args.before.now) (next_of c.args.next.now) z)) (ap (λ x. while_loop c.args.s.now.at (expr_of c.in-While.test) (stmt_of x)) c.deref-in-While.ensures ∙ ap (stmt_at c.args.s.now.at) (sym c.in-While.is)) c.while_statement.ensures.counted;
-  numbered = subst (λ z. OnOk c.while_statement.result (next_of c.while_statement.new.next ≡ past_names (next_of c.args.next.now) (names_of_stmt z))) (ap (λ x. while_loop c.args.s.now.at (expr_of c.in-While.test) (stmt_of x)) c.deref-in-While.ensures ∙ ap (stmt_at c.args.s.now.at) (sym c.in-While.is)) c.while_statement.ensures.numbered;
+  judged = subst (λ z. AgreesWith statement_tree_of c.while_statement.result (stmt (env_of c.args.env.now) (around_of c.args.around.now) (before_of c.args.before.now) (next_of c.args.next.now) z)) ((λ i. while_loop c.args.s.now.at (expr_of (c.deref-in-While-2.ensures i)) (stmt_of (c.deref-in-While.ensures i))) ∙ ap (stmt_at c.args.s.now.at) (sym c.in-While.is)) c.while_statement.ensures.judged;
+  counted = subst (λ z. OnOk c.while_statement.result (before_of c.while_statement.new.before ≡ after_stmt (env_of c.args.env.now) (before_of c.args.before.now) (next_of c.args.next.now) z)) ((λ i. while_loop c.args.s.now.at (expr_of (c.deref-in-While-2.ensures i)) (stmt_of (c.deref-in-While.ensures i))) ∙ ap (stmt_at c.args.s.now.at) (sym c.in-While.is)) c.while_statement.ensures.counted;
+  numbered = subst (λ z. OnOk c.while_statement.result (next_of c.while_statement.new.next ≡ past_names (next_of c.args.next.now) (names_of_stmt z))) ((λ i. while_loop c.args.s.now.at (expr_of (c.deref-in-While-2.ensures i)) (stmt_of (c.deref-in-While.ensures i))) ∙ ap (stmt_at c.args.s.now.at) (sym c.in-While.is)) c.while_statement.ensures.numbered;
   kept = c.while_statement.ensures.kept;
 }
 
 pub statement-returns-in-Do : goal.statement-returns-in-Do
 statement-returns-in-Do t c = record {
-  judged = subst (λ z. AgreesWith statement_tree_of c.do_statement.result (stmt (env_of c.args.env.now) (around_of c.args.around.now) (before_of c.args.before.now) (next_of c.args.next.now) z)) (ap (λ x. do_loop c.args.s.now.at (stmt_of x) (expr_of c.in-Do.test)) c.deref-in-Do.ensures ∙ ap (stmt_at c.args.s.now.at) (sym c.in-Do.is)) c.do_statement.ensures.judged;
-  counted = subst (λ z. OnOk c.do_statement.result (before_of c.do_statement.new.before ≡ after_stmt (env_of c.args.env.now) (before_of c.args.before.now) (next_of c.args.next.now) z)) (ap (λ x. do_loop c.args.s.now.at (stmt_of x) (expr_of c.in-Do.test)) c.deref-in-Do.ensures ∙ ap (stmt_at c.args.s.now.at) (sym c.in-Do.is)) c.do_statement.ensures.counted;
-  numbered = subst (λ z. OnOk c.do_statement.result (next_of c.do_statement.new.next ≡ past_names (next_of c.args.next.now) (names_of_stmt z))) (ap (λ x. do_loop c.args.s.now.at (stmt_of x) (expr_of c.in-Do.test)) c.deref-in-Do.ensures ∙ ap (stmt_at c.args.s.now.at) (sym c.in-Do.is)) c.do_statement.ensures.numbered;
+  judged = subst (λ z. AgreesWith statement_tree_of c.do_statement.result (stmt (env_of c.args.env.now) (around_of c.args.around.now) (before_of c.args.before.now) (next_of c.args.next.now) z)) ((λ i. do_loop c.args.s.now.at (stmt_of (c.deref-in-Do.ensures i)) (expr_of (c.deref-in-Do-2.ensures i))) ∙ ap (stmt_at c.args.s.now.at) (sym c.in-Do.is)) c.do_statement.ensures.judged;
+  counted = subst (λ z. OnOk c.do_statement.result (before_of c.do_statement.new.before ≡ after_stmt (env_of c.args.env.now) (before_of c.args.before.now) (next_of c.args.next.now) z)) ((λ i. do_loop c.args.s.now.at (stmt_of (c.deref-in-Do.ensures i)) (expr_of (c.deref-in-Do-2.ensures i))) ∙ ap (stmt_at c.args.s.now.at) (sym c.in-Do.is)) c.do_statement.ensures.counted;
+  numbered = subst (λ z. OnOk c.do_statement.result (next_of c.do_statement.new.next ≡ past_names (next_of c.args.next.now) (names_of_stmt z))) ((λ i. do_loop c.args.s.now.at (stmt_of (c.deref-in-Do.ensures i)) (expr_of (c.deref-in-Do-2.ensures i))) ∙ ap (stmt_at c.args.s.now.at) (sym c.in-Do.is)) c.do_statement.ensures.numbered;
   kept = c.do_statement.ensures.kept;
 }
 
 pub statement-returns-in-For : goal.statement-returns-in-For
 statement-returns-in-For t c = record {
-  judged = subst (λ z. AgreesWith statement_tree_of c.for_statement.result (stmt (env_of c.args.env.now) (around_of c.args.around.now) (before_of c.args.before.now) (next_of c.args.next.now) z)) (ap (λ x. for_loop c.args.s.now.at (first_of_head c.in-For.first) (maybe_of c.in-For.test) (maybe_of c.in-For.step) (stmt_of x)) c.deref-in-For.ensures ∙ ap (stmt_at c.args.s.now.at) (sym c.in-For.is)) c.for_statement.ensures.judged;
-  counted = subst (λ z. OnOk c.for_statement.result (before_of c.for_statement.new.before ≡ after_stmt (env_of c.args.env.now) (before_of c.args.before.now) (next_of c.args.next.now) z)) (ap (λ x. for_loop c.args.s.now.at (first_of_head c.in-For.first) (maybe_of c.in-For.test) (maybe_of c.in-For.step) (stmt_of x)) c.deref-in-For.ensures ∙ ap (stmt_at c.args.s.now.at) (sym c.in-For.is)) c.for_statement.ensures.counted;
-  numbered = subst (λ z. OnOk c.for_statement.result (next_of c.for_statement.new.next ≡ past_names (next_of c.args.next.now) (names_of_stmt z))) (ap (λ x. for_loop c.args.s.now.at (first_of_head c.in-For.first) (maybe_of c.in-For.test) (maybe_of c.in-For.step) (stmt_of x)) c.deref-in-For.ensures ∙ ap (stmt_at c.args.s.now.at) (sym c.in-For.is)) c.for_statement.ensures.numbered;
+  judged = subst (λ z. AgreesWith statement_tree_of c.for_statement.result (stmt (env_of c.args.env.now) (around_of c.args.around.now) (before_of c.args.before.now) (next_of c.args.next.now) z)) (ap (λ x. for_loop c.args.s.now.at (first_of_head c.in-For.first) (expr_behind c.in-For.test) (expr_behind c.in-For.step) (stmt_of x)) c.deref-in-For.ensures ∙ ap (stmt_at c.args.s.now.at) (sym c.in-For.is)) c.for_statement.ensures.judged;
+  counted = subst (λ z. OnOk c.for_statement.result (before_of c.for_statement.new.before ≡ after_stmt (env_of c.args.env.now) (before_of c.args.before.now) (next_of c.args.next.now) z)) (ap (λ x. for_loop c.args.s.now.at (first_of_head c.in-For.first) (expr_behind c.in-For.test) (expr_behind c.in-For.step) (stmt_of x)) c.deref-in-For.ensures ∙ ap (stmt_at c.args.s.now.at) (sym c.in-For.is)) c.for_statement.ensures.counted;
+  numbered = subst (λ z. OnOk c.for_statement.result (next_of c.for_statement.new.next ≡ past_names (next_of c.args.next.now) (names_of_stmt z))) (ap (λ x. for_loop c.args.s.now.at (first_of_head c.in-For.first) (expr_behind c.in-For.test) (expr_behind c.in-For.step) (stmt_of x)) c.deref-in-For.ensures ∙ ap (stmt_at c.args.s.now.at) (sym c.in-For.is)) c.for_statement.ensures.numbered;
   kept = c.for_statement.ensures.kept;
 }
 
 pub statement-returns-in-Switch : goal.statement-returns-in-Switch
 statement-returns-in-Switch t c = record {
-  judged = subst (λ z. AgreesWith statement_tree_of c.switch_statement.result (stmt (env_of c.args.env.now) (around_of c.args.around.now) (before_of c.args.before.now) (next_of c.args.next.now) z)) (switch_seen c.args.s.now c.in-Switch.on c.in-Switch.groups c.deref-in-Switch.result.now c.in-Switch.is c.deref-in-Switch.ensures.value) c.switch_statement.ensures.judged;
-  counted = subst (λ z. OnOk c.switch_statement.result (before_of c.switch_statement.new.before ≡ after_stmt (env_of c.args.env.now) (before_of c.args.before.now) (next_of c.args.next.now) z)) (switch_seen c.args.s.now c.in-Switch.on c.in-Switch.groups c.deref-in-Switch.result.now c.in-Switch.is c.deref-in-Switch.ensures.value) c.switch_statement.ensures.counted;
-  numbered = subst (λ z. OnOk c.switch_statement.result (next_of c.switch_statement.new.next ≡ past_names (next_of c.args.next.now) (names_of_stmt z))) (switch_seen c.args.s.now c.in-Switch.on c.in-Switch.groups c.deref-in-Switch.result.now c.in-Switch.is c.deref-in-Switch.ensures.value) c.switch_statement.ensures.numbered;
+  judged = subst (λ z. AgreesWith statement_tree_of c.switch_statement.result (stmt (env_of c.args.env.now) (around_of c.args.around.now) (before_of c.args.before.now) (next_of c.args.next.now) z)) (switch_seen c.args.s.now c.in-Switch.on c.in-Switch.groups c.deref-in-Switch-2.result.now c.deref-in-Switch.result.now c.in-Switch.is c.deref-in-Switch-2.ensures c.deref-in-Switch.ensures.value) c.switch_statement.ensures.judged;
+  counted = subst (λ z. OnOk c.switch_statement.result (before_of c.switch_statement.new.before ≡ after_stmt (env_of c.args.env.now) (before_of c.args.before.now) (next_of c.args.next.now) z)) (switch_seen c.args.s.now c.in-Switch.on c.in-Switch.groups c.deref-in-Switch-2.result.now c.deref-in-Switch.result.now c.in-Switch.is c.deref-in-Switch-2.ensures c.deref-in-Switch.ensures.value) c.switch_statement.ensures.counted;
+  numbered = subst (λ z. OnOk c.switch_statement.result (next_of c.switch_statement.new.next ≡ past_names (next_of c.args.next.now) (names_of_stmt z))) (switch_seen c.args.s.now c.in-Switch.on c.in-Switch.groups c.deref-in-Switch-2.result.now c.deref-in-Switch.result.now c.in-Switch.is c.deref-in-Switch-2.ensures c.deref-in-Switch.ensures.value) c.switch_statement.ensures.numbered;
   kept = c.switch_statement.ensures.kept;
 }
 
 pub statement-returns-in_err-parts-in-If-clause-judged : goal.statement-returns-in_err-parts-in-If-clause-judged
 statement-returns-in_err-parts-in-If-clause-judged t c =
-    raised statement_tree_of (stmt (env_of c.args.env.now) (around_of c.args.around.now) (before_of c.args.before.now) (next_of c.args.next.now) (stmt_of c.args.s.now)) c.from_residual.result c.in_err-parts-in-If.field-0.0 c.from_residual.ensures (subst (λ z. Names c.in_err-parts-in-If.field-0.0 (faults (stmt (env_of c.args.env.now) (around_of c.args.around.now) (before_of c.args.before.now) (next_of c.args.next.now) z))) (if_seen c.args.s.now c.in-If.test c.in-If.yes c.in-If.no c.deref-in-If.result.now c.in-If.is c.deref-in-If.ensures) (if_fails c.in_err-parts-in-If.field-0.0 (env_of c.args.env.now) (around_of c.args.around.now) (before_of c.args.before.now) (next_of c.args.next.now) c.args.s.now.at c.in-If.test (stmt_of c.deref-in-If.result.now) (else_behind c.in-If.no) c.in_err-parts-in-If.ensures.judged))
+    raised statement_tree_of (stmt (env_of c.args.env.now) (around_of c.args.around.now) (before_of c.args.before.now) (next_of c.args.next.now) (stmt_of c.args.s.now)) c.from_residual.result c.in_err-parts-in-If.field-0.0 c.from_residual.ensures (subst (λ z. Names c.in_err-parts-in-If.field-0.0 (faults (stmt (env_of c.args.env.now) (around_of c.args.around.now) (before_of c.args.before.now) (next_of c.args.next.now) z))) (if_seen c.args.s.now c.in-If.test c.in-If.yes c.in-If.no c.deref-in-If-2.result.now c.deref-in-If.result.now c.in-If.is c.deref-in-If-2.ensures c.deref-in-If.ensures) (if_fails c.in_err-parts-in-If.field-0.0 (env_of c.args.env.now) (around_of c.args.around.now) (before_of c.args.before.now) (next_of c.args.next.now) c.args.s.now.at c.deref-in-If-2.result.now (stmt_of c.deref-in-If.result.now) (else_behind c.in-If.no) c.in_err-parts-in-If.ensures.judged))
 
 pub statement-returns-in-None : goal.statement-returns-in-None
 statement-returns-in-None t c = record {
   judged = found_as statement_tree_of c.found-in-None.result _ _
-      (ap (stmt (env_of c.args.env.now) (around_of c.args.around.now) (before_of c.args.before.now) (next_of c.args.next.now)) (sym (ap (λ o. if_with c.args.s.now.at c.in-If.test (stmt_of c.deref-in-If.result.now) (else_behind o)) (sym c.in-None.is) ∙ (if_seen c.args.s.now c.in-If.test c.in-If.yes c.in-If.no c.deref-in-If.result.now c.in-If.is c.deref-in-If.ensures))) ∙ two_as (condition_at c.args.s.now.at (value (env_of c.args.env.now) (before_of c.args.before.now) (expr_of c.in-If.test))) (stmt (env_of c.args.env.now) (around_of c.args.around.now) (after (before_of c.args.before.now) (expr_of c.in-If.test)) (next_of c.args.next.now) (stmt_of c.deref-in-If.result.now)) (λ d p. fine (with_tree p (typed.if_else d p.tree typed.empty))) (tested_of c.in_ok-parts-in-If.parts) c.in_ok-parts-in-If.ensures.judged)
+      (ap (stmt (env_of c.args.env.now) (around_of c.args.around.now) (before_of c.args.before.now) (next_of c.args.next.now)) (sym (ap (λ o. if_with c.args.s.now.at c.deref-in-If-2.result.now (stmt_of c.deref-in-If.result.now) (else_behind o)) (sym c.in-None.is) ∙ (if_seen c.args.s.now c.in-If.test c.in-If.yes c.in-If.no c.deref-in-If-2.result.now c.deref-in-If.result.now c.in-If.is c.deref-in-If-2.ensures c.deref-in-If.ensures))) ∙ two_as (condition_at c.args.s.now.at (value (env_of c.args.env.now) (before_of c.args.before.now) (expr_of c.deref-in-If-2.result.now))) (stmt (env_of c.args.env.now) (around_of c.args.around.now) (after (before_of c.args.before.now) (expr_of c.deref-in-If-2.result.now)) (next_of c.args.next.now) (stmt_of c.deref-in-If.result.now)) (λ d p. fine (with_tree p (typed.if_else d p.tree typed.empty))) (tested_of c.in_ok-parts-in-If.parts) c.in_ok-parts-in-If.ensures.judged)
       (c.found-in-None.ensures _ c.only_if.ensures);
-  counted = on_ok c.found-in-None.result _ (c.in_ok-parts-in-If.ensures.counted ∙ (after_while (env_of c.args.env.now) (before_of c.args.before.now) (next_of c.args.next.now) c.args.s.now.at (expr_of c.in-If.test) (stmt_of c.deref-in-If.result.now) ∙ ap (after_stmt (env_of c.args.env.now) (before_of c.args.before.now) (next_of c.args.next.now)) (ap (λ o. if_with c.args.s.now.at c.in-If.test (stmt_of c.deref-in-If.result.now) (else_behind o)) (sym c.in-None.is) ∙ (if_seen c.args.s.now c.in-If.test c.in-If.yes c.in-If.no c.deref-in-If.result.now c.in-If.is c.deref-in-If.ensures))));
-  numbered = on_ok c.found-in-None.result _ (c.in_ok-parts-in-If.ensures.numbered ∙ ap (λ z. past_names (next_of c.args.next.now) (names_of_stmt z)) (ap (λ o. if_with c.args.s.now.at c.in-If.test (stmt_of c.deref-in-If.result.now) (else_behind o)) (sym c.in-None.is) ∙ (if_seen c.args.s.now c.in-If.test c.in-If.yes c.in-If.no c.deref-in-If.result.now c.in-If.is c.deref-in-If.ensures)));
+  counted = on_ok c.found-in-None.result _ (c.in_ok-parts-in-If.ensures.counted ∙ (after_while (env_of c.args.env.now) (before_of c.args.before.now) (next_of c.args.next.now) c.args.s.now.at (expr_of c.deref-in-If-2.result.now) (stmt_of c.deref-in-If.result.now) ∙ ap (after_stmt (env_of c.args.env.now) (before_of c.args.before.now) (next_of c.args.next.now)) (ap (λ o. if_with c.args.s.now.at c.deref-in-If-2.result.now (stmt_of c.deref-in-If.result.now) (else_behind o)) (sym c.in-None.is) ∙ (if_seen c.args.s.now c.in-If.test c.in-If.yes c.in-If.no c.deref-in-If-2.result.now c.deref-in-If.result.now c.in-If.is c.deref-in-If-2.ensures c.deref-in-If.ensures))));
+  numbered = on_ok c.found-in-None.result _ (c.in_ok-parts-in-If.ensures.numbered ∙ ap (λ z. past_names (next_of c.args.next.now) (names_of_stmt z)) (ap (λ o. if_with c.args.s.now.at c.deref-in-If-2.result.now (stmt_of c.deref-in-If.result.now) (else_behind o)) (sym c.in-None.is) ∙ (if_seen c.args.s.now c.in-If.test c.in-If.yes c.in-If.no c.deref-in-If-2.result.now c.deref-in-If.result.now c.in-If.is c.deref-in-If-2.ensures c.deref-in-If.ensures)));
   kept = on_ok c.found-in-None.result _ c.in_ok-parts-in-If.ensures.kept;
 }
 
 pub statement-returns-in-Some-clause-counted : goal.statement-returns-in-Some-clause-counted
 statement-returns-in-Some-clause-counted t c =
-    ok_as c.else_part.result _ _ _ c.else_part.ensures.counted ((λ i. after_stmt (env_of (c.in_ok-parts-in-If.ensures.kept i)) (c.in_ok-parts-in-If.ensures.counted i) (c.in_ok-parts-in-If.ensures.numbered i) (stmt_of c.deref-in-Some.result.now)) ∙ (after_else (env_of c.args.env.now) (before_of c.args.before.now) (next_of c.args.next.now) c.args.s.now.at (expr_of c.in-If.test) (stmt_of c.deref-in-If.result.now) (stmt_of c.deref-in-Some.result.now) ∙ ap (after_stmt (env_of c.args.env.now) (before_of c.args.before.now) (next_of c.args.next.now)) (ap (λ w. if_else c.args.s.now.at (expr_of c.in-If.test) (stmt_of c.deref-in-If.result.now) (stmt_of w)) c.deref-in-Some.ensures ∙ (ap (λ o. if_with c.args.s.now.at c.in-If.test (stmt_of c.deref-in-If.result.now) (else_behind o)) (sym c.in-Some.is) ∙ (if_seen c.args.s.now c.in-If.test c.in-If.yes c.in-If.no c.deref-in-If.result.now c.in-If.is c.deref-in-If.ensures)))))
+    ok_as c.else_part.result _ _ _ c.else_part.ensures.counted ((λ i. after_stmt (env_of (c.in_ok-parts-in-If.ensures.kept i)) (c.in_ok-parts-in-If.ensures.counted i) (c.in_ok-parts-in-If.ensures.numbered i) (stmt_of c.deref-in-Some.result.now)) ∙ (after_else (env_of c.args.env.now) (before_of c.args.before.now) (next_of c.args.next.now) c.args.s.now.at (expr_of c.deref-in-If-2.result.now) (stmt_of c.deref-in-If.result.now) (stmt_of c.deref-in-Some.result.now) ∙ ap (after_stmt (env_of c.args.env.now) (before_of c.args.before.now) (next_of c.args.next.now)) (ap (λ w. if_else c.args.s.now.at (expr_of c.deref-in-If-2.result.now) (stmt_of c.deref-in-If.result.now) (stmt_of w)) c.deref-in-Some.ensures ∙ (ap (λ o. if_with c.args.s.now.at c.deref-in-If-2.result.now (stmt_of c.deref-in-If.result.now) (else_behind o)) (sym c.in-Some.is) ∙ (if_seen c.args.s.now c.in-If.test c.in-If.yes c.in-If.no c.deref-in-If-2.result.now c.deref-in-If.result.now c.in-If.is c.deref-in-If-2.ensures c.deref-in-If.ensures)))))
 
 pub statement-returns-in-Some-clause-numbered : goal.statement-returns-in-Some-clause-numbered
 statement-returns-in-Some-clause-numbered t c =
-    ok_as c.else_part.result _ _ _ c.else_part.ensures.numbered (ap (λ n. past_names n (names_of_stmt (stmt_of c.deref-in-Some.result.now))) c.in_ok-parts-in-If.ensures.numbered ∙ (sym (names_append (next_of c.args.next.now) (names_of_stmt (stmt_of c.deref-in-If.result.now)) (names_of_stmt (stmt_of c.deref-in-Some.result.now))) ∙ ap (λ w. past_names (next_of c.args.next.now) (names_of_stmt w)) (ap (λ w. if_else c.args.s.now.at (expr_of c.in-If.test) (stmt_of c.deref-in-If.result.now) (stmt_of w)) c.deref-in-Some.ensures ∙ (ap (λ o. if_with c.args.s.now.at c.in-If.test (stmt_of c.deref-in-If.result.now) (else_behind o)) (sym c.in-Some.is) ∙ (if_seen c.args.s.now c.in-If.test c.in-If.yes c.in-If.no c.deref-in-If.result.now c.in-If.is c.deref-in-If.ensures)))))
+    ok_as c.else_part.result _ _ _ c.else_part.ensures.numbered (ap (λ n. past_names n (names_of_stmt (stmt_of c.deref-in-Some.result.now))) c.in_ok-parts-in-If.ensures.numbered ∙ (sym (names_append (next_of c.args.next.now) (names_of_stmt (stmt_of c.deref-in-If.result.now)) (names_of_stmt (stmt_of c.deref-in-Some.result.now))) ∙ ap (λ w. past_names (next_of c.args.next.now) (names_of_stmt w)) (ap (λ w. if_else c.args.s.now.at (expr_of c.deref-in-If-2.result.now) (stmt_of c.deref-in-If.result.now) (stmt_of w)) c.deref-in-Some.ensures ∙ (ap (λ o. if_with c.args.s.now.at c.deref-in-If-2.result.now (stmt_of c.deref-in-If.result.now) (else_behind o)) (sym c.in-Some.is) ∙ (if_seen c.args.s.now c.in-If.test c.in-If.yes c.in-If.no c.deref-in-If-2.result.now c.deref-in-If.result.now c.in-If.is c.deref-in-If-2.ensures c.deref-in-If.ensures)))))
 
 pub for_parts-statement-requires : goal.for_parts-statement-requires
 for_parts-statement-requires t c =
@@ -421,9 +421,9 @@ statement-block_statement-requires t c =
 
 pub statement-else_part-requires : goal.statement-else_part-requires
 statement-else_part-requires t c =
-    let whole : if_else c.args.s.now.at (expr_of c.in-If.test) (stmt_of c.deref-in-If.result.now) (stmt_of c.deref-in-Some.result.now) ≡ stmt_of c.args.s.now =
-    ap (λ w. if_else c.args.s.now.at (expr_of c.in-If.test) (stmt_of c.deref-in-If.result.now) (stmt_of w)) c.deref-in-Some.ensures
-    ∙ (ap (λ o. if_with c.args.s.now.at c.in-If.test (stmt_of c.deref-in-If.result.now) (else_behind o)) (sym c.in-Some.is) ∙ if_seen c.args.s.now c.in-If.test c.in-If.yes c.in-If.no c.deref-in-If.result.now c.in-If.is c.deref-in-If.ensures) in
+    let whole : if_else c.args.s.now.at (expr_of c.deref-in-If-2.result.now) (stmt_of c.deref-in-If.result.now) (stmt_of c.deref-in-Some.result.now) ≡ stmt_of c.args.s.now =
+    ap (λ w. if_else c.args.s.now.at (expr_of c.deref-in-If-2.result.now) (stmt_of c.deref-in-If.result.now) (stmt_of w)) c.deref-in-Some.ensures
+    ∙ (ap (λ o. if_with c.args.s.now.at c.deref-in-If-2.result.now (stmt_of c.deref-in-If.result.now) (else_behind o)) (sym c.in-Some.is) ∙ if_seen c.args.s.now c.in-If.test c.in-If.yes c.in-If.no c.deref-in-If-2.result.now c.deref-in-If.result.now c.in-If.is c.deref-in-If-2.ensures c.deref-in-If.ensures) in
     let left : HaveNumbers (next_of c.tested.new.next) (names_of_stmt (stmt_of c.deref-in-Some.result.now)) =
     later_have (next_of c.args.next.now) (next_of c.tested.new.next) (names_of_stmt (stmt_of c.deref-in-If.result.now)) (names_of_stmt (stmt_of c.deref-in-Some.result.now)) c.in_ok-parts-in-If.ensures.numbered
     (subst (λ z. HaveNumbers (next_of c.args.next.now) (names_of_stmt z)) (sym whole) c.requires) in
@@ -432,5 +432,5 @@ statement-else_part-requires t c =
 pub statement-switch_statement-requires : goal.statement-switch_statement-requires
 statement-switch_statement-requires t c =
     let left : HaveNumbers (next_of c.args.next.now) (names_of_groups (groups_of c.deref-in-Switch.result.now)) =
-    subst (λ z. HaveNumbers (next_of c.args.next.now) (names_of_stmt z)) (sym (switch_seen c.args.s.now c.in-Switch.on c.in-Switch.groups c.deref-in-Switch.result.now c.in-Switch.is c.deref-in-Switch.ensures.value)) c.requires in
+    subst (λ z. HaveNumbers (next_of c.args.next.now) (names_of_stmt z)) (sym (switch_seen c.args.s.now c.in-Switch.on c.in-Switch.groups c.deref-in-Switch-2.result.now c.deref-in-Switch.result.now c.in-Switch.is c.deref-in-Switch-2.ensures c.deref-in-Switch.ensures.value)) c.requires in
     search (rules, the_lemmas)

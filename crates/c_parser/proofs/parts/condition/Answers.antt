@@ -1,5 +1,5 @@
 use Rattle.std.proofs.Common.{ap, length, arith}
-use Rattle.c_parser.proofs.StmtLemmas.{condition_of}
+use Rattle.c_parser.proofs.StmtLemmas.{boxed_condition, condition_of}
 use Rattle.c_syntax_printing.specs.Phrases.{any}
 use Rattle.c_parser.proofs.StmtStops.{raised, ends_at, no_parenthesis, condition_fails, condition_unclosed}
 use Rattle.c_syntax_printing.specs.Phrases.{AnExpr}
@@ -13,7 +13,7 @@ use Rattle.c_parser.proofs.Passing.{passed_deep}
 use Rattle.c_parser.proofs.parts.condition.Goals as goal
 
 pub returns-clause-reads : goal.returns-clause-reads
-returns-clause-reads c = let o = c.if-not-take.ensures in let k = c.if-not-take-2.ensures in condition_of o.2 o.1 c.in_ok-test.ensures.parses k.2 k.1
+returns-clause-reads c = let o = c.if-not-take.ensures in let k = c.if-not-take-2.ensures in boxed_condition c.in_ok-boxed.ensures.ok (condition_of o.2 o.1 c.in_ok-test.ensures.parses k.2 k.1)
 
 pub returns-clause-shorter : goal.returns-clause-shorter
 returns-clause-shorter c = omega (arith, ap length c.if-not-take.ensures.2, c.in_ok-test.ensures.shorter, ap length c.if-not-take-2.ensures.2)

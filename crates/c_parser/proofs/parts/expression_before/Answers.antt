@@ -1,5 +1,5 @@
 use Rattle.std.proofs.Common.{ap, length, arith, sym}
-use Rattle.c_parser.proofs.StmtLemmas.{maybe_none, maybe_some, maybe_from}
+use Rattle.c_parser.proofs.StmtLemmas.{boxed_maybe, maybe_none, maybe_some, maybe_from}
 use Rattle.c_syntax_printing.specs.Phrases.{any}
 use Rattle.c_syntax_printing.proofs.Combine.{fails_at}
 use Rattle.c_parser.proofs.StmtStops.{raised, ends_at, before_fails, before_unclosed}
@@ -20,7 +20,7 @@ pub returns-then-take-clause-shorter : goal.returns-then-take-clause-shorter
 returns-then-take-clause-shorter c = omega (arith, ap length c.if-take.ensures.2)
 
 pub returns-clause-reads : goal.returns-clause-reads
-returns-clause-reads c = let k = c.if-not-take.ensures in maybe_from c.if-take.ensures.1 (maybe_some c.in_ok-inside.ensures.parses k.2 k.1)
+returns-clause-reads c = let k = c.if-not-take.ensures in maybe_from c.if-take.ensures.1 (boxed_maybe c.in_ok-boxed.ensures.ok (maybe_some c.in_ok-inside.ensures.parses k.2 k.1))
 
 pub returns-clause-shorter : goal.returns-clause-shorter
 returns-clause-shorter c = omega (arith, ap length c.if-take.ensures.1, c.in_ok-inside.ensures.shorter, ap length c.if-not-take.ensures.2)

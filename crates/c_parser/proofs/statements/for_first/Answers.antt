@@ -1,5 +1,5 @@
 use Rattle.std.proofs.Common.{ap, length, arith}
-use Rattle.c_parser.proofs.StmtLemmas.{first_none, first_is, first_declares, first_from}
+use Rattle.c_parser.proofs.StmtLemmas.{boxed_first, first_none, first_is, first_declares, first_from}
 use Rattle.std.proofs.Common.{sym}
 use Rattle.c_parser_phrases.proofs.Known.{not_there}
 use Rattle.c_syntax_printing.specs.Phrases.{any}
@@ -29,7 +29,7 @@ pub returns-then-is_at_specifier-clause-shorter : goal.returns-then-is_at_specif
 returns-then-is_at_specifier-clause-shorter c = omega (arith, ap length c.if-take.ensures.1, c.in_ok-declaration.ensures.shorter)
 
 pub returns-clause-reads : goal.returns-clause-reads
-returns-clause-reads c = let o = c.if-not-take.ensures in first_from c.if-take.ensures.1 (first_is c.in_ok-first.ensures.parses o.2 o.1)
+returns-clause-reads c = let o = c.if-not-take.ensures in first_from c.if-take.ensures.1 (boxed_first c.in_ok-boxed.ensures.ok (first_is c.in_ok-first.ensures.parses o.2 o.1))
 
 pub returns-clause-shorter : goal.returns-clause-shorter
 returns-clause-shorter c = omega (arith, ap length c.if-take.ensures.1, c.in_ok-first.ensures.shorter, ap length c.if-not-take.ensures.2)

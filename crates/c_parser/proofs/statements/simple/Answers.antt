@@ -38,7 +38,7 @@ pub returns-clause-reads : goal.returns-clause-reads
 returns-clause-reads c =
     let q = c.if-take_keyword-3.ensures.1 ∙ c.if-take_keyword-2.ensures.1 ∙ c.if-take_keyword.ensures.1 ∙ c.if-take.ensures.1 in
     let o = c.if-not-take-3.ensures in
-    stmt_made c.stmt_node-2.result c.stmt_node-2.ensures (stmt_from q (is_evaluation (record { some = c.requires.room; nodes = c.in_node-inside.ensures.nodes; pairs = c.in_node-inside.ensures.pairs }) (c.place-at.ensures ∙ sym (ap place q)) c.in_ok-whole.ensures.parses o.2 o.1))
+    stmt_made c.evaluation_node.result c.evaluation_node.ensures (stmt_from q (is_evaluation (record { some = c.requires.room; nodes = c.in_node-inside.ensures.nodes; pairs = c.in_node-inside.ensures.pairs }) (c.place-at.ensures ∙ sym (ap place q)) c.in_ok-whole.ensures.parses o.2 o.1))
 
 pub returns-then-not-take-clause-stops : goal.returns-then-not-take-clause-stops
 returns-then-not-take-clause-stops c =
@@ -122,10 +122,10 @@ pub returns-then-take_keyword-3-clause-nests : goal.returns-then-take_keyword-3-
 returns-then-take_keyword-3-clause-nests c = made_passes AStmt (OpensAs DeepStmt) c.args.room _ c.stmt_node-then-take_keyword-3.result _ c.stmt_node-then-take_keyword-3.ensures
 
 pub returns-clause-shorter : goal.returns-clause-shorter
-returns-clause-shorter c = when_read c.stmt_node-2.result (omega (arith, ap length c.if-take.ensures.1, ap length c.if-take_keyword.ensures.1, ap length c.if-take_keyword-2.ensures.1, ap length c.if-take_keyword-3.ensures.1, c.in_ok-whole.ensures.shorter, ap length c.if-not-take-3.ensures.2))
+returns-clause-shorter c = when_read c.evaluation_node.result (omega (arith, ap length c.if-take.ensures.1, ap length c.if-take_keyword.ensures.1, ap length c.if-take_keyword-2.ensures.1, ap length c.if-take_keyword-3.ensures.1, c.in_ok-whole.ensures.shorter, ap length c.if-not-take-3.ensures.2))
 
 pub returns-clause-stops : goal.returns-clause-stops
-returns-clause-stops c = made_stops AStmt (bound_of c.args.room) _ _ c.stmt_node-2.result _ c.stmt_node-2.ensures
+returns-clause-stops c = made_stops AStmt (bound_of c.args.room) _ _ c.evaluation_node.result _ c.evaluation_node.ensures
 
 pub returns-clause-nests : goal.returns-clause-nests
-returns-clause-nests c = made_passes AStmt (OpensAs DeepStmt) c.args.room _ c.stmt_node-2.result _ c.stmt_node-2.ensures
+returns-clause-nests c = made_passes AStmt (OpensAs DeepStmt) c.args.room _ c.evaluation_node.result _ c.evaluation_node.ensures

@@ -1,11 +1,12 @@
 use Rattle.std.proofs.Common.{arith, refl}
-use Rattle.c_syntax.specs.Print.{stmt_kinds, block_items_kinds, groups_kinds, labels_kinds, stmts_kinds}
+use Rattle.c_lexer.specs.declared.keyword.TheConstants.{IF, SWITCH, WHILE}
+use Rattle.c_syntax.specs.Print.{expr_kinds, stmt_kinds, block_items_kinds, groups_kinds, labels_kinds, stmts_kinds}
 use Rattle.c_syntax.specs.Tree.{no_block_items, no_groups}
 use Rattle.c_syntax.specs.UnitView.{stmt_of, block_item_before, group_before, labels_of}
-use Rattle.c_syntax.specs.WritesUnit.{block_items_of, groups_of, stmts_of}
+use Rattle.c_syntax.specs.WritesUnit.{block_items_of, groups_of, stmts_of, worded_kinds}
 use Rattle.c_syntax.proofs.UnitRows.{block_item_first, group_first, group_is}
 use Rattle.c_syntax_printing.proofs.Counting.{and_then, counted_as, of_same, one_counted, all_counted}
-use Rattle.c_syntax_printing.proofs.PrintedOperands.{stmt_counted}
+use Rattle.c_syntax_printing.proofs.PrintedOperands.{tree_counted, stmt_counted}
 use Rattle.c_syntax_printing.proofs.Rows.{block_is, switch_is, if_is}
 use Rattle.c_syntax_printing.proofs.statement_lengths.+counted_statement.Goals as goal
 
@@ -25,8 +26,8 @@ count_stmt-returns-in-Block t c =
 pub count_stmt-returns-in-Switch : goal.count_stmt-returns-in-Switch
 count_stmt-returns-in-Switch t c =
     rw c.in-Switch.is
-    (counted_as _ (switch_is c.args.stmt.now.at c.in-Switch.on c.in-Switch.groups _ c.deref-in-Switch.ensures.value)
-    (and_then (and_then (and_then c.count_head-total-in-Switch.ensures c.count_punctuator-total-in-Switch.ensures) c.count_groups-total.ensures) c.count_punctuator-in-Switch.ensures))
+    (counted_as _ (switch_is c.args.stmt.now.at c.in-Switch.on c.in-Switch.groups _ c.deref-in-Switch-2.ensures.value)
+    (and_then (and_then (and_then (tree_counted (worded_kinds SWITCH) _ c.in-Switch.on.value c.deref-in-Switch.ensures c.count_head-total-in-Switch.ensures) c.count_punctuator-total-in-Switch.ensures) c.count_groups-total.ensures) c.count_punctuator-in-Switch.ensures))
 
 pub count_block_items-loop-item-preserved : goal.count_block_items-loop-item-preserved
 count_block_items-loop-item-preserved t c =
@@ -40,23 +41,23 @@ count_groups-loop-group-preserved t c =
 
 pub count_stmt-returns-in-Expr : goal.count_stmt-returns-in-Expr
 count_stmt-returns-in-Expr t c =
-    rw c.in-Expr.is (and_then c.count_expr-total.ensures c.count_punctuator-in-Expr.ensures)
+    rw c.in-Expr.is (and_then (tree_counted expr_kinds _ c.in-Expr.e.value c.deref-in-Expr.ensures c.count_expr-total.ensures) c.count_punctuator-in-Expr.ensures)
 
 pub count_stmt-returns-in-If : goal.count_stmt-returns-in-If
 count_stmt-returns-in-If t c =
     rw c.in-If.is
     (counted_as _ (if_is c.args.stmt.now.at c.in-If.test c.in-If.yes c.in-If.no)
-    (and_then (and_then c.count_head-total.ensures (stmt_counted _ c.in-If.yes.value c.deref-in-If.ensures c.count_stmt-total.ensures)) c.count_else.ensures))
+    (and_then (and_then (tree_counted (worded_kinds IF) _ c.in-If.test.value c.deref-in-If.ensures c.count_head-total.ensures) (stmt_counted _ c.in-If.yes.value c.deref-in-If-2.ensures c.count_stmt-total.ensures)) c.count_else.ensures))
 
 pub count_stmt-returns-in-While : goal.count_stmt-returns-in-While
 count_stmt-returns-in-While t c =
-    rw c.in-While.is (and_then c.count_head-total-in-While.ensures (stmt_counted _ c.in-While.body.value c.deref-in-While.ensures c.count_stmt.ensures))
+    rw c.in-While.is (and_then (tree_counted (worded_kinds WHILE) _ c.in-While.test.value c.deref-in-While.ensures c.count_head-total-in-While.ensures) (stmt_counted _ c.in-While.body.value c.deref-in-While-2.ensures c.count_stmt.ensures))
 
 pub count_stmt-returns-in-Do : goal.count_stmt-returns-in-Do
 count_stmt-returns-in-Do t c =
     rw c.in-Do.is
     (and_then
-    (and_then (and_then c.count_keyword-total.ensures (stmt_counted _ c.in-Do.body.value c.deref-in-Do.ensures c.count_stmt-total-in-Do.ensures)) c.count_head-total-in-Do.ensures)
+    (and_then (and_then c.count_keyword-total.ensures (stmt_counted _ c.in-Do.body.value c.deref-in-Do.ensures c.count_stmt-total-in-Do.ensures)) (tree_counted (worded_kinds WHILE) _ c.in-Do.test.value c.deref-in-Do-2.ensures c.count_head-total-in-Do.ensures))
     c.count_punctuator-in-Do.ensures)
 
 pub count_stmt-returns-in-For : goal.count_stmt-returns-in-For

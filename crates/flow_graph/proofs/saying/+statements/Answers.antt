@@ -23,7 +23,7 @@ pub add_statement-returns-in-Continue : goal.add_statement-returns-in-Continue
 add_statement-returns-in-Continue t c = of_empty (said c.args.into.now.items) c.args.s.now _ c.in-Continue.is refl
 
 pub add_statement-returns-in-Expr : goal.add_statement-returns-in-Expr
-add_statement-returns-in-Expr t c = on_same c.add_expression.result (said c.args.into.now.items) (said c.add_expression.new.into.items) (mentions_of_stmt (stmt_of c.args.s.now)) (mentions (expr_of c.in-Expr.e)) (ap (λ s. mentions_of_stmt (stmt_of s)) c.in-Expr.is) c.add_expression.ensures
+add_statement-returns-in-Expr t c = on_same c.add_expression.result (said c.args.into.now.items) (said c.add_expression.new.into.items) (mentions_of_stmt (stmt_of c.args.s.now)) (mentions (expr_of c.deref-in-Expr.result.now)) (ap (λ s. mentions_of_stmt (stmt_of s)) c.in-Expr.is ∙ ap (λ e. mentions (expr_of e)) (sym c.deref-in-Expr.ensures)) c.add_expression.ensures
 
 pub add_statement-returns-in-Declare : goal.add_statement-returns-in-Declare
 add_statement-returns-in-Declare t c = on_same c.add_inits.result (said c.args.into.now.items) (said c.add_inits.new.into.items) (mentions_of_stmt (stmt_of c.args.s.now)) (mentions_of_inits (inits_of c.deref-in-Declare.result.now)) (ap (λ s. mentions_of_stmt (stmt_of s)) c.in-Declare.is ∙ ap (λ is. mentions_of_inits (inits_of is)) (sym c.deref-in-Declare.ensures.value)) c.add_inits.ensures
@@ -31,32 +31,32 @@ add_statement-returns-in-Declare t c = on_same c.add_inits.result (said c.args.i
 pub add_statement-returns-in-None : goal.add_statement-returns-in-None
 add_statement-returns-in-None t c = let i = c.in-If in
     let old = said c.args.into.now.items in
-    let E = mentions (expr_of i.test) in
-    two_parts old (said c.add_expression-in-If.new.into.items) (said c.add_statement.new.into.items) E (mentions_of_stmt (stmt_of c.deref-in-If.result.now)) c.in_ok-add_expression-in-If.ensures c.in_ok-add_statement-in-If.ensures
-    ∙ ap (λ s. old ++ (E ++ mentions_of_stmt (stmt_of s))) c.deref-in-If.ensures
+    let E = mentions (expr_of c.deref-in-If.result.now) in
+    two_parts old (said c.add_expression-in-If.new.into.items) (said c.add_statement.new.into.items) E (mentions_of_stmt (stmt_of c.deref-in-If-2.result.now)) c.in_ok-add_expression-in-If.ensures c.in_ok-add_statement-in-If.ensures
+    ∙ ap₂ (λ e s. old ++ (mentions (expr_of e) ++ mentions_of_stmt (stmt_of s))) c.deref-in-If.ensures c.deref-in-If-2.ensures
     ∙ ap (λ ms. old ++ ms) (sym (of_if_none c.args.s.now i.test i.yes i.no i.is c.in-None.is))
 
 pub add_statement-returns-in-Some : goal.add_statement-returns-in-Some
 add_statement-returns-in-Some t c = let i = c.in-If in
     let old = said c.args.into.now.items in
     let last = said c.add_statement.new.into.items in
-    let E = mentions (expr_of i.test) in
-    let yes = mentions_of_stmt (stmt_of c.deref-in-If.result.now) in
+    let E = mentions (expr_of c.deref-in-If.result.now) in
+    let yes = mentions_of_stmt (stmt_of c.deref-in-If-2.result.now) in
     let no = mentions_of_stmt (stmt_of c.deref-in-Some.result.now) in
     then_on c.add_statement-in-Some.result old last (said c.add_statement-in-Some.new.into.items) (E ++ yes) no (mentions_of_stmt (stmt_of c.args.s.now))
     (two_parts old (said c.add_expression-in-If.new.into.items) last E yes c.in_ok-add_expression-in-If.ensures c.in_ok-add_statement-in-If.ensures)
-    (of_if_some c.args.s.now i.test i.yes c.in-Some.no i.no i.is c.in-Some.is ∙ ap₂ (λ s u. E ++ (mentions_of_stmt (stmt_of s) ++ mentions_of_stmt (stmt_of u))) (sym c.deref-in-If.ensures) (sym c.deref-in-Some.ensures) ∙ sym (append_assoc E yes no))
+    (of_if_some c.args.s.now i.test i.yes c.in-Some.no i.no i.is c.in-Some.is ∙ ap₂ (λ e s. mentions (expr_of e) ++ (mentions_of_stmt (stmt_of s) ++ mentions_of_stmt (stmt_of c.in-Some.no.value))) (sym c.deref-in-If.ensures) (sym c.deref-in-If-2.ensures) ∙ ap (λ u. E ++ (yes ++ mentions_of_stmt (stmt_of u))) (sym c.deref-in-Some.ensures) ∙ sym (append_assoc E yes no))
     c.add_statement-in-Some.ensures
 
 pub add_statement-returns-in_ok-add_expression-in-While : goal.add_statement-returns-in_ok-add_expression-in-While
-add_statement-returns-in_ok-add_expression-in-While t c = let e = c.in-While.test in
-    then_on c.add_statement-in-While.result (said c.args.into.now.items) (said c.add_expression-in-While.new.into.items) (said c.add_statement-in-While.new.into.items) (mentions (expr_of e)) (mentions_of_stmt (stmt_of c.deref-in-While.result.now)) (mentions_of_stmt (stmt_of c.args.s.now)) c.in_ok-add_expression-in-While.ensures
-    (ap (λ s. mentions_of_stmt (stmt_of s)) c.in-While.is ∙ ap (λ s. mentions (expr_of e) ++ mentions_of_stmt (stmt_of s)) (sym c.deref-in-While.ensures)) c.add_statement-in-While.ensures
+add_statement-returns-in_ok-add_expression-in-While t c =
+    then_on c.add_statement-in-While.result (said c.args.into.now.items) (said c.add_expression-in-While.new.into.items) (said c.add_statement-in-While.new.into.items) (mentions (expr_of c.deref-in-While.result.now)) (mentions_of_stmt (stmt_of c.deref-in-While-2.result.now)) (mentions_of_stmt (stmt_of c.args.s.now)) c.in_ok-add_expression-in-While.ensures
+    (ap (λ s. mentions_of_stmt (stmt_of s)) c.in-While.is ∙ ap₂ (λ e s. mentions (expr_of e) ++ mentions_of_stmt (stmt_of s)) (sym c.deref-in-While.ensures) (sym c.deref-in-While-2.ensures)) c.add_statement-in-While.ensures
 
 pub add_statement-returns-in_ok-add_statement-in-Do : goal.add_statement-returns-in_ok-add_statement-in-Do
-add_statement-returns-in_ok-add_statement-in-Do t c = let e = c.in-Do.test in
-    then_on c.add_expression-in-Do.result (said c.args.into.now.items) (said c.add_statement-in-Do.new.into.items) (said c.add_expression-in-Do.new.into.items) (mentions_of_stmt (stmt_of c.deref-in-Do.result.now)) (mentions (expr_of e)) (mentions_of_stmt (stmt_of c.args.s.now)) c.in_ok-add_statement-in-Do.ensures
-    (ap (λ s. mentions_of_stmt (stmt_of s)) c.in-Do.is ∙ ap (λ s. mentions_of_stmt (stmt_of s) ++ mentions (expr_of e)) (sym c.deref-in-Do.ensures)) c.add_expression-in-Do.ensures
+add_statement-returns-in_ok-add_statement-in-Do t c =
+    then_on c.add_expression-in-Do.result (said c.args.into.now.items) (said c.add_statement-in-Do.new.into.items) (said c.add_expression-in-Do.new.into.items) (mentions_of_stmt (stmt_of c.deref-in-Do.result.now)) (mentions (expr_of c.deref-in-Do-2.result.now)) (mentions_of_stmt (stmt_of c.args.s.now)) c.in_ok-add_statement-in-Do.ensures
+    (ap (λ s. mentions_of_stmt (stmt_of s)) c.in-Do.is ∙ ap₂ (λ s e. mentions_of_stmt (stmt_of s) ++ mentions (expr_of e)) (sym c.deref-in-Do.ensures) (sym c.deref-in-Do-2.ensures)) c.add_expression-in-Do.ensures
 
 pub add_statement-returns-in_ok-add_maybe-in-For-2 : goal.add_statement-returns-in_ok-add_maybe-in-For-2
 add_statement-returns-in_ok-add_maybe-in-For-2 t c = let i = c.in-For in
@@ -75,8 +75,8 @@ add_statement-returns-in_ok-add_maybe-in-For-2 t c = let i = c.in-For in
 
 pub add_statement-returns-in_ok-add_expression-in-Switch : goal.add_statement-returns-in_ok-add_expression-in-Switch
 add_statement-returns-in_ok-add_expression-in-Switch t c = let i = c.in-Switch in
-    then_on c.add_groups.result (said c.args.into.now.items) (said c.add_expression-in-Switch.new.into.items) (said c.add_groups.new.into.items) (mentions (expr_of i.on)) (mentions_of_groups (groups_of c.deref-in-Switch.result.now)) (mentions_of_stmt (stmt_of c.args.s.now)) c.in_ok-add_expression-in-Switch.ensures
-    (of_switch c.args.s.now i.on i.groups i.is ∙ ap (λ gs. mentions (expr_of i.on) ++ mentions_of_groups (groups_of gs)) (sym c.deref-in-Switch.ensures.value)) c.add_groups.ensures
+    then_on c.add_groups.result (said c.args.into.now.items) (said c.add_expression-in-Switch.new.into.items) (said c.add_groups.new.into.items) (mentions (expr_of c.deref-in-Switch.result.now)) (mentions_of_groups (groups_of c.deref-in-Switch-2.result.now)) (mentions_of_stmt (stmt_of c.args.s.now)) c.in_ok-add_expression-in-Switch.ensures
+    (of_switch c.args.s.now i.on i.groups i.is ∙ ap₂ (λ e gs. mentions (expr_of e) ++ mentions_of_groups (groups_of gs)) (sym c.deref-in-Switch.ensures) (sym c.deref-in-Switch-2.ensures.value)) c.add_groups.ensures
 
 pub add_statements-returns : goal.add_statements-returns
 add_statements-returns t c = all_of_flat (λ s. mentions_of_stmt (stmt_of s)) c.args.ss.now c.loop-s.s-index (said c.args.into.now.items) (said c.loop-s.into.items) c.loop-s-test.false c.loop-s.invariant ∙ ap (λ ms. said c.args.into.now.items ++ ms) (sym (stmts_flat c.args.ss.now))

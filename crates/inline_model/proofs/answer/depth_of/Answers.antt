@@ -1,8 +1,8 @@
 use Rattle.std.proofs.Common.{subst}
-use Rattle.inline_model_laws.specs.Chains.{IsGreatest}
-use Rattle.inline_model_laws.proofs.DepthLemmas.{greatest_depth}
+use Rattle.inline_model.specs.Chains.{IsGreatest}
+use Rattle.inline_model.proofs.DepthLemmas.{greatest_depth}
 use Rattle.inline_model.specs.Searching.{IsTurn}
-use Rattle.inline_model.proofs.DepthLemmas.{greatest_from_height, words_of}
+use Rattle.inline_model.proofs.DepthAnswers.{greatest_from_height, words_of}
 use Rattle.inline_model.proofs.answer.depth_of.Goals as goal
 use Rattle.inline_model.proofs.answer.depth_of.Goals.{In-Ends}
 

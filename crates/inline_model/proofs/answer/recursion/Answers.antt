@@ -1,6 +1,6 @@
 use Rattle.std.proofs.Common.{◌≡◌, ◌<◌, [], length, get_or, take, drop, map, Contains, ap, sym, ◌∙◌, subst}
-use Rattle.inline_model_laws.specs.Chains.{IsRecursion}
-use Rattle.inline_model_laws.proofs.RecursionLemmas.{recursion_unbounded}
+use Rattle.inline_model.specs.Chains.{IsRecursion}
+use Rattle.inline_model.proofs.RecursionLemmas.{recursion_unbounded}
 use Rattle.inline_model.specs.Places.{site_at}
 use Rattle.inline_model.proofs.TrailLemmas.{back_called, front_called, on_path_placed, recursion_from}
 use Rattle.inline_model.proofs.answer.recursion.Goals as goal

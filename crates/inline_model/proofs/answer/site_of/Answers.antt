@@ -1,5 +1,5 @@
 use Rattle.std.proofs.Common.{sym, ◌∙◌}
-use Rattle.inline_model_edges.proofs.EdgeLemmas.{stands_at}
+use Rattle.inline_model.proofs.EdgeLemmas.{stands_at}
 use Rattle.inline_model.proofs.TrailLemmas.{site_is}
 use Rattle.inline_model.proofs.answer.site_of.Goals as goal
 

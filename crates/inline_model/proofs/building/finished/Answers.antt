@@ -1,6 +1,6 @@
 use Rattle.std.proofs.Common.{sym, subst}
 use Rattle.flow_model.specs.Built.{graph_of_records}
-use Rattle.inline_model_laws.specs.Inlined.{IsInlined}
+use Rattle.inline_model.specs.Inlined.{IsInlined}
 use Rattle.inline_model.proofs.ValidLemmas.{inlined_order, inlined_valid}
 use Rattle.flow_model.proofs.ValidModels.{none_broken}
 use Rattle.inline_model.proofs.building.finished.Goals as goal

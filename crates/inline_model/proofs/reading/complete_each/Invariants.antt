@@ -1,6 +1,6 @@
 use Rattle.std.proofs.Common.{Contains, take}
 use Rattle.flow_model.specs.Graph.{Graph}
-use Rattle.inline_model_openings.specs.Entries.{AreEntries}
+use Rattle.inline_model.specs.Entries.{AreEntries}
 use Rattle.inline_model.specs.Searching.{AreHeights, Completes, StayLow}
 use Rattle.inline_model.proofs.reading.complete_each.Given as goal
 

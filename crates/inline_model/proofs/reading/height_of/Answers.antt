@@ -1,7 +1,7 @@
 use Rattle.std.proofs.Common.{get_or, max, ap, ◌∙◌}
 use Rattle.std.proofs.lemmas.List.{get_or_default}
 use Rattle.std.proofs.lemmas.List.Elements.{Contains-get_or}
-use Rattle.inline_model_openings.specs.declared.table.Entry.{Entry}
+use Rattle.inline_model.specs.declared.table.Entry.{Entry}
 use Rattle.inline_model.proofs.HeightLemmas.{greatest_more}
 use Rattle.inline_model.proofs.reading.height_of.Goals as goal
 

@@ -2,6 +2,7 @@ use Rattle.std.proofs.Common.{◌≡◌, ◌∙◌, refl, ap}
 use Rattle.std.proofs.lemmas.Result.{IfOk-weaker}
 use Rattle.c_syntax.specs.declared.tree.Group.{out-Group}
 use Rattle.c_syntax.specs.Tree.{block, evaluate, only_if, if_else, while_loop, do_loop, for_loop, switch_on, return_from, block_decl, block_stmt, more_stmts, more_groups}
+use Rattle.c_syntax.specs.View.{expr_of}
 use Rattle.c_syntax.specs.UnitView.{stmt_at, stmt_of, labels_of, block_item_before, group_before}
 use Rattle.c_syntax.specs.WritesUnit.{block_items_of, stmts_of, groups_of}
 use Rattle.c_syntax.proofs.NodeRows.{block_is, switch_is, group_is}
@@ -58,8 +59,10 @@ statement-returns-in_ok-made-in-Block t c =
 pub statement-returns-in_ok-all-in-Switch : goal.statement-returns-in_ok-all-in-Switch
 statement-returns-in_ok-all-in-Switch t c =
     let at = c.args.s.now.at in
-    node (both c.in_ok-made-in-Switch.ensures (alike (ap groups_of c.deref-in-Switch.ensures.value) c.in_ok-all-in-Switch.ensures)) (λ z. switch_on at z.0 z.1) (ap (stmt_at at) c.in-Switch.is ∙ switch_is at c.in-Switch.on c.in-Switch.groups)
-    c.switch_node.ensures refl refl refl
+    let on = alike (ap expr_of c.deref-in-Switch.ensures) c.in_ok-made-in-Switch.ensures in
+    let all = alike (ap groups_of c.deref-in-Switch-2.ensures.value) c.in_ok-all-in-Switch.ensures in
+    IfOk-weaker c.switch_node.result _ _ (λ made is. node (both on all) (λ z. switch_on at z.0 z.1) (ap (stmt_at at) c.in-Switch.is ∙ switch_is at c.in-Switch.on c.in-Switch.groups) is refl refl refl)
+    c.switch_node.ensures
 
 pub statement-returns-in-Empty : goal.statement-returns-in-Empty
 statement-returns-in-Empty t c = leaf (ap (stmt_at c.args.s.now.at) c.in-Empty.is) refl refl refl refl
@@ -71,7 +74,10 @@ pub statement-returns-in-Continue : goal.statement-returns-in-Continue
 statement-returns-in-Continue t c = leaf (ap (stmt_at c.args.s.now.at) c.in-Continue.is) refl refl refl refl
 
 pub statement-returns-in_ok-made-in-Expr : goal.statement-returns-in_ok-made-in-Expr
-statement-returns-in_ok-made-in-Expr t c = node c.in_ok-made-in-Expr.ensures (evaluate c.args.s.now.at) (ap (stmt_at c.args.s.now.at) c.in-Expr.is) refl refl refl refl
+statement-returns-in_ok-made-in-Expr t c =
+    let at = c.args.s.now.at in
+    let whole = alike (ap expr_of c.deref-in-Expr.ensures) c.in_ok-made-in-Expr.ensures in
+    IfOk-weaker c.evaluation_node.result _ _ (λ made is. node whole (evaluate at) (ap (stmt_at at) c.in-Expr.is) is refl refl refl) c.evaluation_node.ensures
 
 pub statement-returns-in_ok-made-in-Return : goal.statement-returns-in_ok-made-in-Return
 statement-returns-in_ok-made-in-Return t c = node c.in_ok-made-in-Return.ensures (return_from c.args.s.now.at) (ap (stmt_at c.args.s.now.at) c.in-Return.is) refl refl refl refl
@@ -79,28 +85,32 @@ statement-returns-in_ok-made-in-Return t c = node c.in_ok-made-in-Return.ensures
 pub statement-returns-in_ok-other-in-Some : goal.statement-returns-in_ok-other-in-Some
 statement-returns-in_ok-other-in-Some t c =
     let x = c.args.s.now in
-    let yes = alike (ap stmt_of c.deref-in-If.ensures) c.in_ok-first-in-If.ensures in
+    let test = alike (ap expr_of c.deref-in-If.ensures) c.in_ok-made-in-If.ensures in
+    let yes = alike (ap stmt_of c.deref-in-If-2.ensures) c.in_ok-first-in-If.ensures in
     let no = alike (ap stmt_of c.deref-in-Some.ensures) c.in_ok-other-in-Some.ensures in
-    IfOk-weaker c.if_else_node.result _ _ (λ made is. node (both c.in_ok-made-in-If.ensures (both yes no)) (λ z. if_else x.at z.0 z.1.0 z.1.1) (is_if x c.in-If.test c.in-If.yes c.in-If.no _ c.in-If.is c.in-Some.is) is refl refl refl)
+    IfOk-weaker c.if_else_node.result _ _ (λ made is. node (both test (both yes no)) (λ z. if_else x.at z.0 z.1.0 z.1.1) (is_if x c.in-If.test c.in-If.yes c.in-If.no _ c.in-If.is c.in-Some.is) is refl refl refl)
     c.if_else_node.ensures
 
 pub statement-returns-in-None : goal.statement-returns-in-None
 statement-returns-in-None t c =
     let x = c.args.s.now in
-    let yes = alike (ap stmt_of c.deref-in-If.ensures) c.in_ok-first-in-If.ensures in
-    IfOk-weaker c.if_node.result _ _ (λ made is. node (both c.in_ok-made-in-If.ensures yes) (λ z. only_if x.at z.0 z.1) (is_if x c.in-If.test c.in-If.yes c.in-If.no _ c.in-If.is c.in-None.is) is refl refl refl) c.if_node.ensures
+    let test = alike (ap expr_of c.deref-in-If.ensures) c.in_ok-made-in-If.ensures in
+    let yes = alike (ap stmt_of c.deref-in-If-2.ensures) c.in_ok-first-in-If.ensures in
+    IfOk-weaker c.if_node.result _ _ (λ made is. node (both test yes) (λ z. only_if x.at z.0 z.1) (is_if x c.in-If.test c.in-If.yes c.in-If.no _ c.in-If.is c.in-None.is) is refl refl refl) c.if_node.ensures
 
 pub statement-returns-in_ok-turn-in-While : goal.statement-returns-in_ok-turn-in-While
 statement-returns-in_ok-turn-in-While t c =
     let at = c.args.s.now.at in
-    let body = alike (ap stmt_of c.deref-in-While.ensures) c.in_ok-turn-in-While.ensures in
-    IfOk-weaker c.while_node.result _ _ (λ made is. node (both c.in_ok-made-in-While.ensures body) (λ z. while_loop at z.0 z.1) (ap (stmt_at at) c.in-While.is) is refl refl refl) c.while_node.ensures
+    let test = alike (ap expr_of c.deref-in-While.ensures) c.in_ok-made-in-While.ensures in
+    let body = alike (ap stmt_of c.deref-in-While-2.ensures) c.in_ok-turn-in-While.ensures in
+    IfOk-weaker c.while_node.result _ _ (λ made is. node (both test body) (λ z. while_loop at z.0 z.1) (ap (stmt_at at) c.in-While.is) is refl refl refl) c.while_node.ensures
 
 pub statement-returns-in_ok-made-in-Do : goal.statement-returns-in_ok-made-in-Do
 statement-returns-in_ok-made-in-Do t c =
     let at = c.args.s.now.at in
     let body = alike (ap stmt_of c.deref-in-Do.ensures) c.in_ok-turn-in-Do.ensures in
-    IfOk-weaker c.do_node.result _ _ (λ made is. node (both body c.in_ok-made-in-Do.ensures) (λ z. do_loop at z.0 z.1) (ap (stmt_at at) c.in-Do.is) is refl refl refl) c.do_node.ensures
+    let test = alike (ap expr_of c.deref-in-Do-2.ensures) c.in_ok-made-in-Do.ensures in
+    IfOk-weaker c.do_node.result _ _ (λ made is. node (both body test) (λ z. do_loop at z.0 z.1) (ap (stmt_at at) c.in-Do.is) is refl refl refl) c.do_node.ensures
 
 pub statement-returns-in_ok-turn-in-For : goal.statement-returns-in_ok-turn-in-For
 statement-returns-in_ok-turn-in-For t c =

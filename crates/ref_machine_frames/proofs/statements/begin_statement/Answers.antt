@@ -17,7 +17,7 @@ returns-in-Declare-clause-same c =
 
 pub returns-in-If-clause-same : goal.returns-in-If-clause-same
 returns-in-If-clause-same c =
-    if_part c.wait_in_statement-in-If.result (program_of c.args.program.now) c.args.here (seen c.args.memory.now) c.args.s.now c.args.todo.now.items c.wait_in_statement-in-If.new.todo.items c.in-If.test c.in-If.yes c.in-If.no c.in-If.is c.wait_in_statement-in-If.ensures.same
+    if_part c.wait_in_statement-in-If.result (program_of c.args.program.now) c.args.here (seen c.args.memory.now) c.args.s.now c.args.todo.now.items c.wait_in_statement-in-If.new.todo.items c.in-If.test c.in-If.yes c.in-If.no c.deref-in-If.result.now c.in-If.is c.deref-in-If.ensures c.wait_in_statement-in-If.ensures.same
 
 pub returns-in-For-clause-same : goal.returns-in-For-clause-same
 returns-in-For-clause-same c =

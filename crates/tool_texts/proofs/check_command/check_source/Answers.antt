@@ -1,5 +1,5 @@
 use Rattle.std.proofs.Common.{refl}
-use Rattle.tool_texts.proofs.FileLemmas.{checks}
+use Rattle.tool_texts.proofs.TextFiles.{checks}
 use Rattle.tool_texts.proofs.check_command.check_source.Goals as goal
 
 pub returns-clause-made : goal.returns-clause-made

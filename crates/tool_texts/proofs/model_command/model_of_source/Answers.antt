@@ -1,5 +1,5 @@
 use Rattle.std.proofs.Common.{refl}
-use Rattle.tool_texts.proofs.FileLemmas.{models, stops_modelling, stops_reading}
+use Rattle.tool_texts.proofs.TextFiles.{models, stops_modelling, stops_reading}
 use Rattle.tool_texts.proofs.model_command.model_of_source.Goals as goal
 
 pub returns-in-Ok-clause-made : goal.returns-in-Ok-clause-made

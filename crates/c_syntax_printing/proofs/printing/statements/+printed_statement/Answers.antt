@@ -1,11 +1,12 @@
 use Rattle.std.proofs.Common.{arith, refl}
-use Rattle.c_syntax.specs.Print.{stmt_kinds, block_items_kinds, stmts_kinds, groups_kinds}
+use Rattle.c_lexer.specs.declared.keyword.TheConstants.{IF, SWITCH, WHILE}
+use Rattle.c_syntax.specs.Print.{expr_kinds, stmt_kinds, block_items_kinds, stmts_kinds, groups_kinds}
 use Rattle.c_syntax.specs.Tree.{no_block_items, no_groups}
 use Rattle.c_syntax.specs.UnitView.{stmt_of, block_item_before, group_before}
-use Rattle.c_syntax.specs.WritesUnit.{block_items_of, stmts_of, groups_of}
+use Rattle.c_syntax.specs.WritesUnit.{block_items_of, stmts_of, groups_of, worded_kinds}
 use Rattle.c_syntax.proofs.Writing.{and_then, and_last, on_ok_as, one_written, all_written}
 use Rattle.c_syntax.proofs.UnitRows.{block_last, switch_last, group_last, block_item_first, group_first}
-use Rattle.c_syntax_printing.proofs.PrintedOperands.{stmt_written, stmt_last}
+use Rattle.c_syntax_printing.proofs.PrintedOperands.{tree_written, stmt_written, stmt_last}
 use Rattle.c_syntax_printing.proofs.Rows.{if_is}
 use Rattle.c_syntax_printing.proofs.printing.statements.+printed_statement.Goals as goal
 
@@ -23,8 +24,8 @@ write_stmt-returns-in_ok-write_block_items-in-Block t c =
 pub write_stmt-returns-in_ok-write_groups-in-Switch : goal.write_stmt-returns-in_ok-write_groups-in-Switch
 write_stmt-returns-in_ok-write_groups-in-Switch t c =
     rw c.in-Switch.is
-    (switch_last _ _ c.push_punctuator-in-Switch-2.new.out.items c.args.stmt.now.at c.in-Switch.on c.in-Switch.groups _ c.deref-in-Switch.ensures.value
-    (and_last _ _ _ (and_then (and_then c.in_ok-write_head-in-Switch.ensures c.in_ok-push_punctuator-in-Switch.ensures) c.in_ok-write_groups-in-Switch.ensures) c.push_punctuator-in-Switch-2.ensures))
+    (switch_last _ _ c.push_punctuator-in-Switch-2.new.out.items c.args.stmt.now.at c.in-Switch.on c.in-Switch.groups _ c.deref-in-Switch-2.ensures.value
+    (and_last _ _ _ (and_then (and_then (tree_written (worded_kinds SWITCH) _ c.in-Switch.on.value c.deref-in-Switch.ensures c.in_ok-write_head-in-Switch.ensures) c.in_ok-push_punctuator-in-Switch.ensures) c.in_ok-write_groups-in-Switch.ensures) c.push_punctuator-in-Switch-2.ensures))
 
 pub write_block_items-loop-item-preserved : goal.write_block_items-loop-item-preserved
 write_block_items-loop-item-preserved t c =
@@ -38,23 +39,23 @@ write_groups-loop-group-preserved t c =
 
 pub write_stmt-returns-in_ok-write_expr-in-Expr : goal.write_stmt-returns-in_ok-write_expr-in-Expr
 write_stmt-returns-in_ok-write_expr-in-Expr t c =
-    rw c.in-Expr.is (and_last _ _ _ c.in_ok-write_expr-in-Expr.ensures c.push_punctuator-in-Expr.ensures)
+    rw c.in-Expr.is (and_last _ _ _ (tree_written expr_kinds _ c.in-Expr.e.value c.deref-in-Expr.ensures c.in_ok-write_expr-in-Expr.ensures) c.push_punctuator-in-Expr.ensures)
 
 pub write_stmt-returns-in_ok-write_stmt-in-If : goal.write_stmt-returns-in_ok-write_stmt-in-If
 write_stmt-returns-in_ok-write_stmt-in-If t c =
     rw c.in-If.is
     (on_ok_as _ _ _ _ _ (if_is c.args.stmt.now.at c.in-If.test c.in-If.yes c.in-If.no)
-    (and_last _ _ _ (and_then c.in_ok-write_head-in-If.ensures (stmt_written _ c.in-If.yes.value c.deref-in-If.ensures c.in_ok-write_stmt-in-If.ensures)) c.write_else.ensures))
+    (and_last _ _ _ (and_then (tree_written (worded_kinds IF) _ c.in-If.test.value c.deref-in-If.ensures c.in_ok-write_head-in-If.ensures) (stmt_written _ c.in-If.yes.value c.deref-in-If-2.ensures c.in_ok-write_stmt-in-If.ensures)) c.write_else.ensures))
 
 pub write_stmt-returns-in_ok-write_head-in-While : goal.write_stmt-returns-in_ok-write_head-in-While
 write_stmt-returns-in_ok-write_head-in-While t c =
-    rw c.in-While.is (and_last _ _ _ c.in_ok-write_head-in-While.ensures (stmt_last _ _ _ _ c.in-While.body.value c.deref-in-While.ensures c.write_stmt-in-While.ensures))
+    rw c.in-While.is (and_last _ _ _ (tree_written (worded_kinds WHILE) _ c.in-While.test.value c.deref-in-While.ensures c.in_ok-write_head-in-While.ensures) (stmt_last _ _ _ _ c.in-While.body.value c.deref-in-While-2.ensures c.write_stmt-in-While.ensures))
 
 pub write_stmt-returns-in_ok-write_head-in-Do : goal.write_stmt-returns-in_ok-write_head-in-Do
 write_stmt-returns-in_ok-write_head-in-Do t c =
     rw c.in-Do.is
     (and_last _ _ _
-    (and_then (and_then c.in_ok-push_keyword-in-Do.ensures (stmt_written _ c.in-Do.body.value c.deref-in-Do.ensures c.in_ok-write_stmt-in-Do.ensures)) c.in_ok-write_head-in-Do.ensures)
+    (and_then (and_then c.in_ok-push_keyword-in-Do.ensures (stmt_written _ c.in-Do.body.value c.deref-in-Do.ensures c.in_ok-write_stmt-in-Do.ensures)) (tree_written (worded_kinds WHILE) _ c.in-Do.test.value c.deref-in-Do-2.ensures c.in_ok-write_head-in-Do.ensures))
     c.push_punctuator-in-Do.ensures)
 
 pub write_stmt-returns-in_ok-write_for_head-in-For : goal.write_stmt-returns-in_ok-write_for_head-in-For

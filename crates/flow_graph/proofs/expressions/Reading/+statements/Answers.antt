@@ -51,7 +51,7 @@ pub statement-returns-in-Expr : goal.statement-returns-in-Expr
 statement-returns-in-Expr t c =
     let n = c.args.self.now.defined in
     let ms = c.args.self.now.marks.now in
-    same_shape c.expression.result (expr_at n ms (expr_of c.in-Expr.e)) (stmt_at n ms (stmt_of c.args.s.now)) (sym (ap (λ s. stmt_at n ms (stmt_of s)) c.in-Expr.is)) c.expression.ensures
+    same_shape c.expression.result (expr_at n ms (expr_of c.deref-in-Expr.result.now)) (stmt_at n ms (stmt_of c.args.s.now)) (ap (λ e. expr_at n ms (expr_of e)) c.deref-in-Expr.ensures ∙ sym (ap (λ s. stmt_at n ms (stmt_of s)) c.in-Expr.is)) c.expression.ensures
 
 pub statement-returns-in-Declare : goal.statement-returns-in-Declare
 statement-returns-in-Declare t c =
@@ -67,8 +67,10 @@ statement-returns-in_ok-other-in-Some t c =
     let i = c.in-If in
     let first = c.in_ok-one-in-If.ensures ∙ ap (λ s. stmt_at n ms (stmt_of s)) c.deref-in-If.ensures in
     let second = c.in_ok-other-in-Some.ensures ∙ ap (λ s. stmt_at n ms (stmt_of s)) c.deref-in-Some.ensures in
-    same_shape c.choice.result (seq_two (expr_at n ms (expr_of i.test)) (alt (shape_of c.in_ok-one-in-If.one) (shape_of c.in_ok-other-in-Some.other))) (stmt_at n ms (stmt_of c.args.s.now))
-    (ap₂ (λ S T. seq_two (expr_at n ms (expr_of i.test)) (alt S T)) first second ∙ of_if_some n ms c.args.s.now i.test i.yes c.in-Some.no i.no i.is c.in-Some.is) c.choice.ensures
+    same_shape c.choice.result (seq_two (expr_at n ms (expr_of c.deref-in-Some-2.result.now)) (alt (shape_of c.in_ok-one-in-If.one) (shape_of c.in_ok-other-in-Some.other))) (stmt_at n ms (stmt_of c.args.s.now))
+    (ap₂ (λ S T. seq_two (expr_at n ms (expr_of c.deref-in-Some-2.result.now)) (alt S T)) first second
+    ∙ ap (λ e. seq_two (expr_at n ms (expr_of e)) (alt (stmt_at n ms (stmt_of i.yes.value)) (stmt_at n ms (stmt_of c.in-Some.no.value)))) c.deref-in-Some-2.ensures
+    ∙ of_if_some n ms c.args.s.now i.test i.yes c.in-Some.no i.no i.is c.in-Some.is) c.choice.ensures
 
 pub statement-returns-in-None : goal.statement-returns-in-None
 statement-returns-in-None t c =
@@ -76,24 +78,26 @@ statement-returns-in-None t c =
     let ms = c.args.self.now.marks.now in
     let i = c.in-If in
     let first = c.in_ok-one-in-If.ensures ∙ ap (λ s. stmt_at n ms (stmt_of s)) c.deref-in-If.ensures in
-    same_shape c.choice-in-None.result (seq_two (expr_at n ms (expr_of i.test)) (alt (shape_of c.in_ok-one-in-If.one) Skip)) (stmt_at n ms (stmt_of c.args.s.now))
-    (ap (λ S. seq_two (expr_at n ms (expr_of i.test)) (alt S Skip)) first ∙ of_if_none n ms c.args.s.now i.test i.yes i.no i.is c.in-None.is) c.choice-in-None.ensures
+    same_shape c.choice-in-None.result (seq_two (expr_at n ms (expr_of c.deref-in-None.result.now)) (alt (shape_of c.in_ok-one-in-If.one) Skip)) (stmt_at n ms (stmt_of c.args.s.now))
+    (ap₂ (λ e S. seq_two (expr_at n ms (expr_of e)) (alt S Skip)) c.deref-in-None.ensures first ∙ of_if_none n ms c.args.s.now i.test i.yes i.no i.is c.in-None.is) c.choice-in-None.ensures
 
 pub statement-returns-in_ok-body-in-While : goal.statement-returns-in_ok-body-in-While
 statement-returns-in_ok-body-in-While t c =
     let n = c.args.self.now.defined in
     let ms = c.args.self.now.marks.now in
-    let body = c.in_ok-body-in-While.ensures ∙ ap (λ s. stmt_at n ms (stmt_of s)) c.deref-in-While.ensures in
+    let test = c.in_ok-test-in-While.ensures ∙ ap (λ e. expr_at n ms (expr_of e)) c.deref-in-While.ensures in
+    let body = c.in_ok-body-in-While.ensures ∙ ap (λ s. stmt_at n ms (stmt_of s)) c.deref-in-While-2.ensures in
     same_shape c.loop_of.result (Loop (shape_of c.in_ok-test-in-While.test) (shape_of c.in_ok-body-in-While.body) Skip) (stmt_at n ms (stmt_of c.args.s.now))
-    (ap₂ (λ S T. Loop S T Skip) c.in_ok-test-in-While.ensures body ∙ sym (ap (λ s. stmt_at n ms (stmt_of s)) c.in-While.is)) c.loop_of.ensures
+    (ap₂ (λ S T. Loop S T Skip) test body ∙ sym (ap (λ s. stmt_at n ms (stmt_of s)) c.in-While.is)) c.loop_of.ensures
 
 pub statement-returns-in_ok-test-in-Do : goal.statement-returns-in_ok-test-in-Do
 statement-returns-in_ok-test-in-Do t c =
     let n = c.args.self.now.defined in
     let ms = c.args.self.now.marks.now in
     let body = c.in_ok-body-in-Do.ensures ∙ ap (λ s. stmt_at n ms (stmt_of s)) c.deref-in-Do.ensures in
+    let test = c.in_ok-test-in-Do.ensures ∙ ap (λ e. expr_at n ms (expr_of e)) c.deref-in-Do-2.ensures in
     same_shape c.do_of.result (Do (shape_of c.in_ok-body-in-Do.body) (shape_of c.in_ok-test-in-Do.test)) (stmt_at n ms (stmt_of c.args.s.now))
-    (ap₂ Do body c.in_ok-test-in-Do.ensures ∙ sym (ap (λ s. stmt_at n ms (stmt_of s)) c.in-Do.is)) c.do_of.ensures
+    (ap₂ Do body test ∙ sym (ap (λ s. stmt_at n ms (stmt_of s)) c.in-Do.is)) c.do_of.ensures
 
 pub statement-returns-in_ok-body-in-For : goal.statement-returns-in_ok-body-in-For
 statement-returns-in_ok-body-in-For t c =
@@ -111,9 +115,10 @@ statement-returns-in_ok-cases-in-Switch t c =
     let n = c.args.self.now.defined in
     let ms = c.args.self.now.marks.now in
     let i = c.in-Switch in
-    let cases = c.in_ok-cases-in-Switch.ensures ∙ ap (λ gs. groups_at n ms (groups_of gs)) c.deref-in-Switch.ensures.value in
-    same_shape c.switch_of.result (seq_two (shape_of c.in_ok-on-in-Switch.on) (Cases (parts_of c.in_ok-cases-in-Switch.cases.items) (has_default (groups_of c.deref-in-Switch-2.result.now)))) (stmt_at n ms (stmt_of c.args.s.now))
-    (ap₂ (λ S ps. seq_two S (Cases ps (has_default (groups_of c.deref-in-Switch-2.result.now)))) c.in_ok-on-in-Switch.ensures cases
-    ∙ ap (λ gs. seq_two (expr_at n ms (expr_of i.on)) (Cases (groups_at n ms (groups_of i.groups.items)) (has_default (groups_of gs)))) c.deref-in-Switch-2.ensures.value
+    let on = c.in_ok-on-in-Switch.ensures ∙ ap (λ e. expr_at n ms (expr_of e)) c.deref-in-Switch.ensures in
+    let cases = c.in_ok-cases-in-Switch.ensures ∙ ap (λ gs. groups_at n ms (groups_of gs)) c.deref-in-Switch-2.ensures.value in
+    same_shape c.switch_of.result (seq_two (shape_of c.in_ok-on-in-Switch.on) (Cases (parts_of c.in_ok-cases-in-Switch.cases.items) (has_default (groups_of c.deref-in-Switch-3.result.now)))) (stmt_at n ms (stmt_of c.args.s.now))
+    (ap₂ (λ S ps. seq_two S (Cases ps (has_default (groups_of c.deref-in-Switch-3.result.now)))) on cases
+    ∙ ap (λ gs. seq_two (expr_at n ms (expr_of i.on.value)) (Cases (groups_at n ms (groups_of i.groups.items)) (has_default (groups_of gs)))) c.deref-in-Switch-3.ensures.value
     ∙ of_switch n ms c.args.s.now i.on i.groups i.is)
     c.switch_of.ensures

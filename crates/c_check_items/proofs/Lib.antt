@@ -1,3 +1,0 @@
-pub mod FunctionTypes
-pub mod Outputs
-pub mod Within

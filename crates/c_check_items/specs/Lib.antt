@@ -1,2 +1,0 @@
-pub use Rattle.c_check_units.specs.OutputView
-pub use Rattle.c_check_units.specs.declared.outputs.Output

@@ -1,0 +1,5 @@
+use Rattle.inline_model.specs.Growing.{Adds, HasNode, LeavesSys}
+use Rattle.inline_model.proofs.calling.copy_all.Given as goal
+
+abbrev pub invariant-loop-node : goal.invariant-loop-node
+invariant-loop-node l = Adds l.fn.edges.items l.edges.items (HasNode (LeavesSys l.model l.item) l.from l.node)

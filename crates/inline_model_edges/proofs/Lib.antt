@@ -1,3 +1,0 @@
-pub mod DrawnLemmas
-pub mod EdgeLemmas
-pub mod Grown

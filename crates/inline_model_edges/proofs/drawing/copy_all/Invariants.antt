@@ -1,5 +1,0 @@
-use Rattle.inline_model_edges.specs.Growing.{Adds, HasNode, LeavesSilent}
-use Rattle.inline_model_edges.proofs.drawing.copy_all.Given as goal
-
-abbrev pub invariant-loop-node : goal.invariant-loop-node
-invariant-loop-node l = Adds l.fn.edges.items l.edges.items (HasNode (LeavesSilent l.model l.item) l.from l.node)

@@ -1,6 +1,0 @@
-use Rattle.std.proofs.Common.{take}
-use Rattle.inline_model_edges.specs.Growing.{Adds, HasOne, IsSilentIn}
-use Rattle.inline_model_edges.proofs.drawing.copy_from.Given as goal
-
-abbrev pub invariant-loop-edge : goal.invariant-loop-edge
-invariant-loop-edge l = Adds l.fn.edges.items l.edges.items (HasOne (IsSilentIn l.model l.item) (take l.edge-index l.edge-items))

@@ -1,5 +1,0 @@
-use Rattle.inline_model_edges.proofs.EdgeLemmas.{stands_at}
-use Rattle.inline_model_edges.proofs.growing.call_of.Goals as goal
-
-pub returns : goal.returns
-returns c = stands_at c.args.model.now.calls c.calls.result.now c.args.place c.index-calls-place.result c.calls.ensures c.requires c.index-calls-place.is

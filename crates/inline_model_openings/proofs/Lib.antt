@@ -1,4 +1,0 @@
-pub mod Edges
-pub mod EntryLemmas
-pub mod RangeLemmas
-pub mod Saturating

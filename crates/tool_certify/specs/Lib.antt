@@ -1,3 +1,0 @@
-pub mod Certify
-pub mod Confirm
-pub mod Stopping

@@ -1,2 +1,0 @@
-pub mod ExpectsLemmas
-pub mod FindingsLemmas

@@ -1,3 +1,0 @@
--- Read in this order: Expected (what the command tells of the monitors that are asked for), Expects (what it makes of its files).
-pub mod Expected
-pub mod Expects

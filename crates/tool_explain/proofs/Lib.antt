@@ -1,3 +1,0 @@
-pub mod ExplainLemmas
-pub mod ExplanationLemmas
-pub use Rattle.tool_texts.proofs.FileLemmas

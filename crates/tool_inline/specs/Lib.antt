@@ -1,3 +1,0 @@
-pub mod Depth
-pub mod Inline
-pub mod InlineStops

@@ -1,3 +1,0 @@
-pub mod SummaryLemmas
-pub mod TellsLemmas
-pub use Rattle.tool_audit.proofs.FileLemmas

@@ -1,2 +1,0 @@
-pub mod SourceFiles
-pub mod SourceLemmas
