@@ -1,12 +1,12 @@
 #!/usr/bin/env python3
 """refusals.py [ROOT]: reads the code of the crates, without the tests, for lines that build the answer `out of memory`.
 
-It is an answer to an allocation that was refused. So it is built by the `From` impls that take the allocator's error, and by
-the few functions of ALLOCATING, which call an allocating function whose error isn't of this kind. Everywhere else it is only
-handed on: by `?`, in an arm whose pattern has it (`Err(OutOfMemory) => Err(X::OutOfMemory)`), below a test that an error is
-it, or in an arm `Err(_)` or behind the `else` of a `let Ok(..)` of a call whose error is the type OutOfMemory. A line that
-does none of this is named, unless it is one of the functions of AGAIN, and so is a function of a list that builds it
-nowhere: the lists only get shorter. The status is 0 where no line is named."""
+It is an answer to an allocation that was refused. So it is built by the `From` impls that take the allocator's error, which
+`?` and `OutOfMemory::from(..)` call, and by the few functions of ALLOCATING, which call an allocating function whose error
+isn't of this kind. Everywhere else it is only handed on: by `?`, in an arm whose pattern has it (`Err(OutOfMemory) =>
+Err(X::OutOfMemory)`), below a test that an error is it, or in an arm `Err(_)` or behind the `else` of a `let Ok(..)` of a
+call whose error is the type OutOfMemory. A line that does none of this is named, unless it is one of the functions of AGAIN,
+and so is a function of a list that builds it nowhere: the lists only get shorter. The status is 0 where no line is named."""
 import pathlib
 import re
 import sys
@@ -95,7 +95,7 @@ def main():
     errors, wrong, named = signatures(sources), [], set()
     for source in sources:
         for at, line in enumerate(source.lines):
-            builds = re.search(r'(?:\(|=> |= |return |^\s*)(?:\w+::)*OutOfMemory\b(?!\s*(?:=>|>|\{|\) =>|\)? \||,$))', line)
+            builds = re.search(r'(?:\(|=> |= |return |^\s*)(?:\w+::)*OutOfMemory\b(?!::from\()(?!\s*(?:=>|>|\{|\) =>|\)? \||,$))', line)
             if not builds or re.search(r'->.*OutOfMemory>', line) or re.search(r'(struct|enum|impl|fn) |^\s*\w+\(OutOfMemory\),$', line):
                 continue
             where = f'{source.name} {source.function(at)}'

@@ -6,13 +6,13 @@ ghost use Rattle.c_tree.specs.declared.tree.TLabel.{TLabel};
 use c_check_initialisers::number_of;
 use c_tree::TLabel;
 use dm_base::OutOfMemory;
-use indexmap::IndexSet;
 use std::alloc::Global;
+use std::collections::HashSet;
 
 // The labels that were seen: the numbers of case values, and whether a default was among them.
 #[derive(Drop)]
 struct Seen {
-    numbers: IndexSet<i64>,
+    numbers: HashSet<i64>,
     default: bool,
 }
 
@@ -21,7 +21,7 @@ fn nothing_seen(alloc: Global) -> Seen
     ensures { HasSeen result [] }
 {
     Seen {
-        numbers: IndexSet::new(alloc),
+        numbers: HashSet::new(alloc),
         default: false,
     }
 }
@@ -37,7 +37,7 @@ fn is_repeated(seen: &Seen, label: TLabel) -> bool
 }
 
 // Notes the number of a case value.
-fn note_number(numbers: &mut IndexSet<i64>, number: i64) -> Result<(), OutOfMemory>
+fn note_number(numbers: &mut HashSet<i64>, number: i64) -> Result<(), OutOfMemory>
     ensures { OnOk result (AddsNumber numbers.old.keys number numbers.new.keys) }
 {
     numbers.insert(number)?;

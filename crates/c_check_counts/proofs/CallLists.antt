@@ -1,7 +1,6 @@
 -- What lists of trees hold, one after another.
-use Rattle.std.proofs.Common.{◌≡◌, ℕ, ◌≤◌, List, [], ◌∷◌, ◌++◌, length, take, Result, OnOk, refl, sym, ap, ◌∙◌}
+use Rattle.std.proofs.Common.{◌≡◌, List, [], ◌∷◌, ◌++◌, refl, ap}
 use Rattle.std.specs.Prelude.{flat_map}
-use Rattle.std.proofs.lemmas.List.{take_all, append_assoc}
 use Rattle.c_syntax.specs.declared.tree.Expr.{Expr as ExprTree}
 use Rattle.c_syntax.specs.declared.tree.Init.{Init as InitTree}
 use Rattle.c_syntax.specs.declared.tree.DeclPart.{DeclPart}
@@ -17,9 +16,6 @@ use Rattle.c_rules.specs.CallPlaces.{call_places_of_item, call_places}
 use Rattle.c_rules.specs.PlacesOfCalls.{places, places_of_all, places_of_init, places_of_inits, places_of_maybe_init, places_of_parts, places_of_decl, places_of_stmt, places_of_block, places_of_stmts, places_of_groups}
 use Rattle.c_check_counts.specs.SeenCalls.{places_of_block_item, places_of_group}
 use Rattle.c_syntax.proofs.Lists.{one_more}
-pub use Rattle.c_syntax.proofs.Lists.{on_same}
-use Rattle.dm_base.proofs.ListLemmas.{two_parts}
-pub use Rattle.c_syntax.proofs.Lists.{then_on}
 
 pub exprs_flat : (es : List ExprTree) → places_of_all (exprs_of es) ≡ flat_map (λ e. places (expr_of e)) es
 exprs_flat [] = refl
@@ -49,16 +45,3 @@ groups_flat (Group' labels shape row ∷ gs) = one_more (places_of_stmts (stmts_
 pub items_flat : (is : List ItemTree) → call_places (items_of is) ≡ flat_map (λ i. call_places_of_item (item_at i.at i.kind)) is
 items_flat [] = refl
 items_flat (i ∷ is) = ap (λ xs. call_places_of_item (item_at i.at i.kind) ++ xs) (items_flat is)
-
--- ## Loops
-
--- a loop that adds for each item what it has, at its end
-module _ {X Y : Type 0} (f : X → List Y) (xs : List X) where
-  pub all_flat : (i : ℕ) (start new whole : List Y) → length xs ≤ i → whole ≡ flat_map f xs → new ≡ start ++ flat_map f (take i xs) → new ≡ start ++ whole
-  all_flat i start new whole over e is = is ∙ ap (λ ys. start ++ flat_map f ys) (take_all i xs over) ∙ ap (λ ys. start ++ ys) (sym e)
-
--- ## Clauses of calls by other words
-
-pub two_then_on : {E Y : Type 0} (r : Result (Unit {0}) E) (old mid next new a b d m : List Y) → mid ≡ old ++ a → next ≡ mid ++ b → m ≡ a ++ (b ++ d) → OnOk r (new ≡ next ++ d) → OnOk r (new ≡ old ++ m)
-two_then_on r old mid next new a b d m first second e is =
-    then_on r old next new (a ++ b) d m (two_parts old mid next a b first second) (e ∙ sym (append_assoc a b d)) is

@@ -1,5 +1,5 @@
 -- What lists of trees hold, one after another.
-use Rattle.std.proofs.Common.{◌≡◌, ℕ, ◌+◌, ◌<◌, ◌≤◌, Bool, true, false, List, [], ◌∷◌, ◌++◌, length, take, get_or, refl, sym, ap, ◌∙◌, append-nil}
+use Rattle.std.proofs.Common.{◌≡◌, ℕ, ◌+◌, ◌<◌, ◌≤◌, Bool, true, false, List, [], ◌∷◌, ◌++◌, length, take, get_or, Result, OnOk, refl, sym, ap, ◌∙◌, append-nil}
 use Rattle.std.specs.Prelude.{flat_map, if◌then◌else◌}
 use Rattle.std.proofs.lemmas.List.{take_more, take_all, append_assoc}
 use Rattle.std.proofs.lemmas.Grind.{flat_map-append}
@@ -75,3 +75,17 @@ module _ {X Y : Type 0} (f : X → List Y) (xs : List X) where
 
   pub all_flat : (i : ℕ) (start new whole : List Y) → length xs ≤ i → whole ≡ flat_map f xs → new ≡ start ++ flat_map f (take i xs) → new ≡ start ++ whole
   all_flat i start new whole over e is = is ∙ ap (λ ys. start ++ flat_map f ys) (take_all i xs over) ∙ ap (λ ys. start ++ ys) (sym e)
+
+-- ## Clauses of calls by other words
+
+-- where a form holds nothing
+pub none_on : {Y : Type 0} (old m : List Y) → m ≡ [] → old ≡ old ++ m
+none_on old m e = sym (append-nil old) ∙ ap (λ ys. old ++ ys) (sym e)
+
+pub two_then_on : {E Y : Type 0} (r : Result (Unit {0}) E) (old mid next new a b d m : List Y) → mid ≡ old ++ a → next ≡ mid ++ b → m ≡ a ++ (b ++ d) → OnOk r (new ≡ next ++ d) → OnOk r (new ≡ old ++ m)
+two_then_on r old mid next new a b d m first second e is =
+    then_on r old next new (a ++ b) d m (two_parts old mid next a b first second) (e ∙ sym (append_assoc a b d)) is
+
+pub three_then_on : {E Y : Type 0} (r : Result (Unit {0}) E) (old one two three new a b d f m : List Y) → one ≡ old ++ a → two ≡ one ++ b → three ≡ two ++ d → m ≡ a ++ (b ++ (d ++ f)) → OnOk r (new ≡ three ++ f) → OnOk r (new ≡ old ++ m)
+three_then_on r old one two three new a b d f m first second third e is =
+    two_then_on r old two three new (a ++ b) d f m (two_parts old one two a b first second) third (e ∙ sym (append_assoc a b (d ++ f))) is

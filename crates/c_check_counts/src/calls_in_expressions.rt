@@ -12,43 +12,31 @@ pub fn add_expression(into: &mut Vec<u32>, e: &Expr) -> Result<(), OutOfMemory>
     ensures { OnOk result (into.new.items ≡ into.old.items ++ places (expr_of e.now)) }
 {
     match &e.kind {
-        ExprKind::Name(_) => Ok(()),
-        ExprKind::Int { .. } => Ok(()),
-        ExprKind::Char(_) => Ok(()),
-        ExprKind::Str(_) => Ok(()),
+        ExprKind::Name(_)
+        | ExprKind::Int { .. }
+        | ExprKind::Char(_)
+        | ExprKind::Str(_)
+        | ExprKind::SizeofType(_)
+        | ExprKind::SizeofExpr(_) => Ok(()),
         ExprKind::Comma(es) => add_expressions(into, es),
-        ExprKind::SizeofType(_) => Ok(()),
-        ExprKind::Cast(_, a) => add_expression(into, a),
         ExprKind::Call(d, es) => {
             add_expression(into, d)?;
             into.push(e.at)?;
             add_expressions(into, es)
         }
-        ExprKind::Member(a, _) => add_expression(into, a),
-        ExprKind::Arrow(a, _) => add_expression(into, a),
-        ExprKind::PostInc(a) => add_expression(into, a),
-        ExprKind::PostDec(a) => add_expression(into, a),
-        ExprKind::PreInc(a) => add_expression(into, a),
-        ExprKind::PreDec(a) => add_expression(into, a),
-        ExprKind::SizeofExpr(_) => Ok(()),
-        ExprKind::Unary(_, a) => add_expression(into, a),
-        ExprKind::Index(a, b) => {
-            add_expression(into, a)?;
-            add_expression(into, b)
-        }
-        ExprKind::And(a, b) => {
-            add_expression(into, a)?;
-            add_expression(into, b)
-        }
-        ExprKind::Or(a, b) => {
-            add_expression(into, a)?;
-            add_expression(into, b)
-        }
-        ExprKind::Binary(_, a, b) => {
-            add_expression(into, a)?;
-            add_expression(into, b)
-        }
-        ExprKind::Assign(_, a, b) => {
+        ExprKind::Cast(_, a)
+        | ExprKind::Member(a, _)
+        | ExprKind::Arrow(a, _)
+        | ExprKind::PostInc(a)
+        | ExprKind::PostDec(a)
+        | ExprKind::PreInc(a)
+        | ExprKind::PreDec(a)
+        | ExprKind::Unary(_, a) => add_expression(into, a),
+        ExprKind::Index(a, b)
+        | ExprKind::And(a, b)
+        | ExprKind::Or(a, b)
+        | ExprKind::Binary(_, a, b)
+        | ExprKind::Assign(_, a, b) => {
             add_expression(into, a)?;
             add_expression(into, b)
         }

@@ -15,8 +15,8 @@ pub fn add_statement(into: &mut Vec<u32>, s: &Stmt) -> Result<(), OutOfMemory>
     ensures { OnOk result (into.new.items ≡ into.old.items ++ places_of_stmt (stmt_of s.now)) }
 {
     match &s.kind {
+        StmtKind::Empty | StmtKind::Break | StmtKind::Continue => Ok(()),
         StmtKind::Block(items) => add_block(into, items),
-        StmtKind::Empty => Ok(()),
         StmtKind::Expr(e) => add_expression(into, e),
         StmtKind::If { test, yes, no } => {
             add_expression(into, test)?;
@@ -49,8 +49,6 @@ pub fn add_statement(into: &mut Vec<u32>, s: &Stmt) -> Result<(), OutOfMemory>
             add_expression(into, on)?;
             add_groups(into, groups)
         }
-        StmtKind::Break => Ok(()),
-        StmtKind::Continue => Ok(()),
         StmtKind::Return(e) => add_maybe(into, e),
     }
 }

@@ -77,6 +77,11 @@ pub fn add_names<'t>(into: &mut Vec<&'t [u8]>, s: &'t Stmt) -> Result<(), OutOfM
     ensures { OnOk result (seen into.new.items ≡ seen into.old.items ++ names_of_stmt (stmt_of s.now)) }
 {
     match &s.kind {
+        StmtKind::Empty
+        | StmtKind::Expr(_)
+        | StmtKind::Break
+        | StmtKind::Continue
+        | StmtKind::Return(_) => Ok(()),
         StmtKind::Block(items) => add_block(into, items),
         StmtKind::If { yes, no, .. } => {
             add_names(into, yes)?;
@@ -85,18 +90,12 @@ pub fn add_names<'t>(into: &mut Vec<&'t [u8]>, s: &'t Stmt) -> Result<(), OutOfM
                 None => Ok(()),
             }
         }
-        StmtKind::While { body, .. } => add_names(into, body),
-        StmtKind::Do { body, .. } => add_names(into, body),
+        StmtKind::While { body, .. } | StmtKind::Do { body, .. } => add_names(into, body),
         StmtKind::For { first, body, .. } => {
             add_first(into, first)?;
             add_names(into, body)
         }
         StmtKind::Switch { groups, .. } => add_groups(into, groups),
-        StmtKind::Empty => Ok(()),
-        StmtKind::Expr(_) => Ok(()),
-        StmtKind::Break => Ok(()),
-        StmtKind::Continue => Ok(()),
-        StmtKind::Return(_) => Ok(()),
     }
 }
 

@@ -14,7 +14,7 @@ use std::alloc::Global;
 
 /// The numbers that the next variables of a function have. The instrumenter's variables are numbered after all others, so the
 /// others have the numbers that they have without it.
-#[derive(Clone, Copy, Debug, PartialEq, Eq)]
+#[derive(Clone, Copy)]
 pub struct Next {
     /// That of the next variable that isn't the instrumenter's.
     pub plain: u32,

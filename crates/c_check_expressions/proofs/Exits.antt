@@ -1,5 +1,6 @@
 -- How a node that is checked part by part ends.
 use Rattle.std.proofs.Common.{◌≡◌, Result, Ok, Err, OnOk, IsErr, IsErrAnd, refl, ap, sym, subst, ◌∙◌}
+use Rattle.std.proofs.lemmas.Result.{IfOk-from_err}
 use Rattle.c_check_types.specs.CheckError.{CheckError}
 use Rattle.c_check_types.specs.Agreement.{Names, AgreesWith}
 use Rattle.c_check_types.proofs.Parts.{names_on, names_first, names_second, raised}
@@ -10,6 +11,10 @@ use Rattle.c_rules.specs.Checked.{Checked, fine, faults, on, both, beside, all_t
 pub on_ok : {X E : Type 0} (r : Result X E) (A : Type 0) → A → OnOk r A
 on_ok (Ok x) A a = a
 on_ok (Err e) A a = tt
+
+-- the same after an error of a part
+pub none_ok : {X E : Type 0} (r : Result X E) (A : Type 0) → IsErr r → OnOk r A
+none_ok r A h = IfOk-from_err r (λ _. A) h
 
 -- ## One part
 

@@ -47,46 +47,39 @@ after_triple b x y z =
     sym (past_past b (calls (expr_of x)) (calls (expr_of y) + calls (expr_of z)) (strings (expr_of x)) (strings (expr_of y) ++ strings (expr_of z)))
     ∙ after_pair (after b (expr_of x)) y z
 
-pub after-Member : (b : Before) (e : ExprTree) (a : Box ExprTree Global) (n : Named) (x : ExprTree) → e.kind ≡ k.Member a n → x ≡ a.value → after b (expr_of e) ≡ after b (expr_of x)
-after-Member b e a n x is p = ap (λ kind. after b (expr_at e.at kind)) is ∙ ap (λ y. after b (expr_of y)) (sym p)
+-- the forms with one operand that is evaluated
+abbrev pub of_one_operand : ExprTree → (a : Box ExprTree Global) → Type 0
+of_one_operand e a = ((x : Named) × (e.kind ≡ k.Member a x)) ⊎ (((x : Named) × (e.kind ≡ k.Arrow a x)) ⊎ ((e.kind ≡ k.PostInc a) ⊎ ((e.kind ≡ k.PostDec a) ⊎ ((e.kind ≡ k.PreInc a) ⊎ ((e.kind ≡ k.PreDec a) ⊎ ((op : ℕ) × (e.kind ≡ k.Unary op a)))))))
 
-pub after-Arrow : (b : Before) (e : ExprTree) (a : Box ExprTree Global) (n : Named) (x : ExprTree) → e.kind ≡ k.Arrow a n → x ≡ a.value → after b (expr_of e) ≡ after b (expr_of x)
-after-Arrow b e a n x is p = ap (λ kind. after b (expr_at e.at kind)) is ∙ ap (λ y. after b (expr_of y)) (sym p)
+after_operand : (b : Before) (e : ExprTree) (a : Box ExprTree Global) → of_one_operand e a → after b (expr_of e) ≡ after b (expr_of a.value)
+after_operand b e a (inl h) = ap (λ kind. after b (expr_at e.at kind)) h.1
+after_operand b e a (inr (inl h)) = ap (λ kind. after b (expr_at e.at kind)) h.1
+after_operand b e a (inr (inr (inl is))) = ap (λ kind. after b (expr_at e.at kind)) is
+after_operand b e a (inr (inr (inr (inl is)))) = ap (λ kind. after b (expr_at e.at kind)) is
+after_operand b e a (inr (inr (inr (inr (inl is))))) = ap (λ kind. after b (expr_at e.at kind)) is
+after_operand b e a (inr (inr (inr (inr (inr (inl is)))))) = ap (λ kind. after b (expr_at e.at kind)) is
+after_operand b e a (inr (inr (inr (inr (inr (inr h)))))) = ap (λ kind. after b (expr_at e.at kind)) h.1
 
-pub after-PostInc : (b : Before) (e : ExprTree) (a : Box ExprTree Global) (x : ExprTree) → e.kind ≡ k.PostInc a → x ≡ a.value → after b (expr_of e) ≡ after b (expr_of x)
-after-PostInc b e a x is p = ap (λ kind. after b (expr_at e.at kind)) is ∙ ap (λ y. after b (expr_of y)) (sym p)
-
-pub after-PostDec : (b : Before) (e : ExprTree) (a : Box ExprTree Global) (x : ExprTree) → e.kind ≡ k.PostDec a → x ≡ a.value → after b (expr_of e) ≡ after b (expr_of x)
-after-PostDec b e a x is p = ap (λ kind. after b (expr_at e.at kind)) is ∙ ap (λ y. after b (expr_of y)) (sym p)
-
-pub after-PreInc : (b : Before) (e : ExprTree) (a : Box ExprTree Global) (x : ExprTree) → e.kind ≡ k.PreInc a → x ≡ a.value → after b (expr_of e) ≡ after b (expr_of x)
-after-PreInc b e a x is p = ap (λ kind. after b (expr_at e.at kind)) is ∙ ap (λ y. after b (expr_of y)) (sym p)
-
-pub after-PreDec : (b : Before) (e : ExprTree) (a : Box ExprTree Global) (x : ExprTree) → e.kind ≡ k.PreDec a → x ≡ a.value → after b (expr_of e) ≡ after b (expr_of x)
-after-PreDec b e a x is p = ap (λ kind. after b (expr_at e.at kind)) is ∙ ap (λ y. after b (expr_of y)) (sym p)
-
-pub after-Unary : (b : Before) (e : ExprTree) (op : ℕ) (a : Box ExprTree Global) (x : ExprTree) → e.kind ≡ k.Unary op a → x ≡ a.value → after b (expr_of e) ≡ after b (expr_of x)
-after-Unary b e op a x is p = ap (λ kind. after b (expr_at e.at kind)) is ∙ ap (λ y. after b (expr_of y)) (sym p)
+pub after_one : (b : Before) (e : ExprTree) (a : Box ExprTree Global) (x : ExprTree) → of_one_operand e a → x ≡ a.value → after b (expr_of e) ≡ after b (expr_of x)
+after_one b e a x form p = after_operand b e a form ∙ ap (λ y. after b (expr_of y)) (sym p)
 
 pub after-Cast : (b : Before) (e : ExprTree) (t : TypeTree) (a : Box ExprTree Global) (x : ExprTree) → e.kind ≡ k.Cast t a → x ≡ a.value → after b (expr_of e) ≡ after b (expr_of x)
 after-Cast b e t a x is p = ap (λ kind. after b (expr_at e.at kind)) is ∙ ap (λ y. after b (expr_of y)) (sym p)
 
--- the forms with two values
-abbrev pub of_two_values : ExprTree → (l r : Box ExprTree Global) → Type 0
-of_two_values e l r = (e.kind ≡ k.Index l r) ⊎ ((e.kind ≡ k.And l r) ⊎ ((e.kind ≡ k.Or l r) ⊎ ((op : ℕ) × (e.kind ≡ k.Binary op l r))))
+-- the forms with two operands
+abbrev pub of_two_operands : ExprTree → (l r : Box ExprTree Global) → Type 0
+of_two_operands e l r = (e.kind ≡ k.Index l r) ⊎ ((e.kind ≡ k.And l r) ⊎ ((e.kind ≡ k.Or l r) ⊎ (((op : ℕ) × (e.kind ≡ k.Binary op l r)) ⊎ ((op : ℕ) × (e.kind ≡ k.Assign op l r)))))
 
-after_values : (b : Before) (e : ExprTree) (l r : Box ExprTree Global) → of_two_values e l r → after b (expr_of e) ≡ past b (calls (expr_of l.value) + calls (expr_of r.value)) (strings (expr_of l.value) ++ strings (expr_of r.value))
-after_values b e l r (inl is) = ap (λ kind. after b (expr_at e.at kind)) is
-after_values b e l r (inr (inl is)) = ap (λ kind. after b (expr_at e.at kind)) is
-after_values b e l r (inr (inr (inl is))) = ap (λ kind. after b (expr_at e.at kind)) is
-after_values b e l r (inr (inr (inr h))) = ap (λ kind. after b (expr_at e.at kind)) h.1
+after_operands : (b : Before) (e : ExprTree) (l r : Box ExprTree Global) → of_two_operands e l r → after b (expr_of e) ≡ past b (calls (expr_of l.value) + calls (expr_of r.value)) (strings (expr_of l.value) ++ strings (expr_of r.value))
+after_operands b e l r (inl is) = ap (λ kind. after b (expr_at e.at kind)) is
+after_operands b e l r (inr (inl is)) = ap (λ kind. after b (expr_at e.at kind)) is
+after_operands b e l r (inr (inr (inl is))) = ap (λ kind. after b (expr_at e.at kind)) is
+after_operands b e l r (inr (inr (inr (inl h)))) = ap (λ kind. after b (expr_at e.at kind)) h.1
+after_operands b e l r (inr (inr (inr (inr h)))) = ap (λ kind. after b (expr_at e.at kind)) h.1
 
-pub after_two : (b : Before) (e : ExprTree) (l r : Box ExprTree Global) (x y : ExprTree) → of_two_values e l r → x ≡ l.value → y ≡ r.value → after b (expr_of e) ≡ after (after b (expr_of x)) (expr_of y)
+pub after_two : (b : Before) (e : ExprTree) (l r : Box ExprTree Global) (x y : ExprTree) → of_two_operands e l r → x ≡ l.value → y ≡ r.value → after b (expr_of e) ≡ after (after b (expr_of x)) (expr_of y)
 after_two b e l r x y form p q =
-    after_values b e l r form ∙ ((λ i. past b (calls (expr_of (sym p i)) + calls (expr_of (sym q i))) (strings (expr_of (sym p i)) ++ strings (expr_of (sym q i)))) ∙ after_pair b x y)
-
-pub after-Assign : (b : Before) (e : ExprTree) (op : ℕ) (l r : Box ExprTree Global) (x y : ExprTree) → e.kind ≡ k.Assign op l r → x ≡ l.value → y ≡ r.value → after b (expr_of e) ≡ after (after b (expr_of x)) (expr_of y)
-after-Assign b e op l r x y is p q = ap (λ kind. after b (expr_at e.at kind)) is ∙ ((λ i. past b (calls (expr_of (sym p i)) + calls (expr_of (sym q i))) (strings (expr_of (sym p i)) ++ strings (expr_of (sym q i)))) ∙ after_pair b x y)
+    after_operands b e l r form ∙ ((λ i. past b (calls (expr_of (sym p i)) + calls (expr_of (sym q i))) (strings (expr_of (sym p i)) ++ strings (expr_of (sym q i)))) ∙ after_pair b x y)
 
 -- behind a designator, a call and its arguments
 after_call : (b : Before) (x : ExprTree) (es : List ExprTree) → past b (calls (expr_of x) + suc (calls_of_all (exprs_of es))) (strings (expr_of x) ++ strings_of_all (exprs_of es)) ≡ past (past (after b (expr_of x)) 1 []) (calls_of_all (exprs_of es)) (strings_of_all (exprs_of es))

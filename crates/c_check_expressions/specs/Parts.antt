@@ -2,7 +2,7 @@
 use Rattle.std.specs.Prelude.{◌≡◌, ℕ, List, [], ◌∷◌, ◌++◌, Option, Some, None}
 use Rattle.std.specs.Borrow.{Bor}
 use Rattle.c_syntax.specs.declared.tree.Param.{Param as ParamTree, out-Param}
-use Rattle.c_syntax.specs.Tree.{Ident, Expr, a_name, index, binary}
+use Rattle.c_syntax.specs.Tree.{Ident, Expr, a_name, member, postfix, prefix, sizeof, unary, index, binary, assign}
 use Rattle.c_syntax.specs.View.{spec_of}
 use Rattle.c_syntax.specs.Writes.{declarator_in}
 use Rattle.c_tree.specs.declared.tree.CType.{CType as TypeTree}
@@ -13,8 +13,10 @@ use Rattle.c_rules.specs.Names.{Name}
 use Rattle.c_rules.specs.Scopes.{Env, Binding, Meaning, a_function}
 use Rattle.c_rules.specs.TypedExpression.{TypedExpression}
 use Rattle.c_rules.specs.Declarators.{name_of}
+use Rattle.c_rules.specs.Assignments.{assignable, assignment_by}
+use Rattle.c_rules.specs.Conversions.{valued}
 use Rattle.c_rules.specs.BinaryExpressions.{sum}
-use Rattle.c_rules.specs.Expressions.{type_of_parameter, infix_rule}
+use Rattle.c_rules.specs.Expressions.{type_of_parameter, access, after_operand, before_operand, infix_rule, unary_rule}
 use Rattle.c_rules.specs.UnaryExpressions.{indirection}
 use Rattle.c_check_counts.specs.Environment.{Environment}
 use Rattle.c_check_counts.specs.Bound.{Bound}
@@ -63,8 +65,23 @@ abbrev pub type_seen : Option (Bor TypeTree) → Option CType
 type_seen None = None
 type_seen (Some t) = Some (ctype_of t.now)
 
--- what a form with two values gives of them
+-- what a form with one operand that is evaluated, which stands at a place, gives of it
+abbrev pub one_rule : Env → Expr → (place : ℕ) → TypedExpression → Checked TypedExpression
+one_rule env (member at how e x) place g = access env at place how x.name (fine g)
+one_rule env (postfix at op e) place g = after_operand env at place op (fine g)
+one_rule env (prefix at sizeof e) place g = fine g
+one_rule env (prefix at op e) place g = before_operand env at place op (fine g) (fine g)
+one_rule env (unary at op e) place g = unary_rule env at place op (fine g)
+one_rule env e place g = fine g
+
+-- what the first operand of a form is: the target of an assignment, or else a value
+abbrev pub first_rule : Env → Expr → (place : ℕ) → TypedExpression → Checked TypedExpression
+first_rule env (assign at op e f) place g = assignable place g
+first_rule env e place g = valued env place g
+
+-- what a form with two operands gives of them
 abbrev pub two_rule : Env → Expr → TypedExpression → TypedExpression → Checked TypedExpression
 two_rule env (index at e f) a b = on (sum env at a b) (indirection at)
 two_rule env (binary at op e f) a b = infix_rule env at op a b
+two_rule env (assign at op e f) a b = assignment_by env at op a b
 two_rule env e a b = fine a

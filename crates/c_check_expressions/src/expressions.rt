@@ -1,13 +1,12 @@
 ghost use Rattle.std.specs.Prelude.{◌≡◌, map, OnOk};
-ghost use Rattle.c_check_expressions.specs.Parts.{Declares, type_of_param};
+ghost use Rattle.c_check_expressions.specs.Parts.{Declares, first_rule, type_of_param};
 ghost use Rattle.c_check_types.specs.Agreement.{AgreesWith};
 ghost use Rattle.c_check_types.specs.TypedExpressionView.{typed_expression_of};
 ghost use Rattle.c_check_primary.specs.CalleeView.{callee_of};
-ghost use Rattle.c_rules.specs.Assignments.{step};
 ghost use Rattle.c_rules.specs.Checked.{on};
 ghost use Rattle.c_rules.specs.Counts.{after, calls_of_all, strings_of_all, past, place_of};
 ghost use Rattle.c_rules.specs.Declarators.{type_of_spec};
-ghost use Rattle.c_rules.specs.Expressions.{tree, trees, value, place_at, callee, type_named, declared, size_in, parameters, folded_value, type_declared};
+ghost use Rattle.c_rules.specs.Expressions.{tree, trees, value, callee, type_named, declared, size_in, parameters, folded_value, type_declared};
 ghost use Rattle.c_rules.specs.Scopes.{in_context, inside, nothing_before, sized};
 ghost use Rattle.c_check_counts.specs.View.{before_of, env_of};
 ghost use Rattle.c_syntax.specs.View.{expr_of, declarator_of, spec_of, type_name_of};
@@ -17,21 +16,19 @@ ghost use Rattle.c_tree.specs.View.{ctype_of, types_of};
 use crate::counting::{next_site, next_string};
 use crate::designators::direct_callee;
 use crate::forms::{declare_parameter, is_void_pointer, place_or};
-use crate::nodes::{comma_given, member_behind, two_given, unary_given};
-use c_check_assignments::{
-    assignable, assignment_by, cast_of, null_cast, size_of_expression, size_of_type, step,
-};
+use crate::nodes::{comma_given, first_given, one_given, two_given};
+use c_check_assignments::{cast_of, null_cast, size_of_expression, size_of_type};
 use c_check_counts::{Before, Context, Environment, nothing_before};
 use c_check_operators::choice;
 use c_check_primary::{
-    Callee, called, callee_by_value, integer_expression, member_of, named_expression, typed_int,
+    Callee, called, callee_by_value, integer_expression, named_expression, typed_int,
 };
 use c_check_types::{
     CheckError, TypedExpression, array_of, array_size, function_of, parameter_of, pointer_to,
     type_of_spec, valued,
 };
 use c_syntax::{Declarator, DeclaratorKind, Expr, ExprKind, Param, Spec, TypeName};
-use c_tree::{BinOp, CType};
+use c_tree::CType;
 use std::alloc::Global;
 use std::mem;
 
@@ -74,38 +71,28 @@ pub fn tree<'t>(
             let arguments = values(alloc, env, before, es)?;
             called(alloc, e.at, callee, site, arguments)
         }
-        ExprKind::Member(a, x) => {
-            let given = tree(alloc, env, before, a)?;
-            member_of(alloc, env, e.at, x.name.as_slice(), given)
-        }
-        ExprKind::Arrow(a, x) => {
-            let pointer = value(alloc, env, before, a)?;
-            member_behind(alloc, env, e.at, x.name.as_slice(), pointer)
-        }
-        ExprKind::PostInc(a) => stepped(alloc, env, before, e.at, BinOp::Add, true, a),
-        ExprKind::PostDec(a) => stepped(alloc, env, before, e.at, BinOp::Sub, true, a),
-        ExprKind::PreInc(a) => stepped(alloc, env, before, e.at, BinOp::Add, false, a),
-        ExprKind::PreDec(a) => stepped(alloc, env, before, e.at, BinOp::Sub, false, a),
         ExprKind::SizeofExpr(a) => {
             let given = unevaluated(alloc, env, a)?;
             size_of_expression(env, e.at, &given)
         }
-        ExprKind::Unary(op, a) => {
+        ExprKind::Member(a, _)
+        | ExprKind::Arrow(a, _)
+        | ExprKind::PostInc(a)
+        | ExprKind::PostDec(a)
+        | ExprKind::PreInc(a)
+        | ExprKind::PreDec(a)
+        | ExprKind::Unary(_, a) => {
             let given = tree(alloc, env, before, a)?;
-            unary_given(alloc, env, e.at, a.at, *op, given)
+            one_given(alloc, env, e, a.at, given)
         }
         ExprKind::Index(a, b)
         | ExprKind::And(a, b)
         | ExprKind::Or(a, b)
-        | ExprKind::Binary(_, a, b) => {
-            let left = value(alloc, env, before, a)?;
+        | ExprKind::Binary(_, a, b)
+        | ExprKind::Assign(_, a, b) => {
+            let left = operand(alloc, env, before, a, e)?;
             let right = value(alloc, env, before, b)?;
             two_given(alloc, env, e, left, right)
-        }
-        ExprKind::Assign(op, a, b) => {
-            let target = place(alloc, env, before, a)?;
-            let source = value(alloc, env, before, b)?;
-            assignment_by(alloc, env, e.at, *op, target, source)
         }
         ExprKind::Cond(c, a, b) => {
             let test = value(alloc, env, before, c)?;
@@ -132,20 +119,21 @@ pub fn value<'t>(
     valued(alloc, env, e.at, given)
 }
 
-// The operand of an assignment or a step (C99 6.5.16 paragraph 2).
+// The first operand of a form with two (C99 6.5.2.1, 6.5.5 to 6.5.16): a value, and the target of an assignment.
 #[cycle(expression)]
-fn place<'t>(
+fn operand<'t>(
     alloc: Global,
     env: &mut Environment<'t>,
     before: &mut Before<'t>,
     e: &'t Expr,
+    form: &'t Expr,
 ) -> Result<TypedExpression, CheckError>
-    ensures judged { AgreesWith typed_expression_of result (place_at (place_of (expr_of e.now)) (tree (env_of env.old) (before_of before.old) (expr_of e.now))) }
+    ensures judged { AgreesWith typed_expression_of result (on (tree (env_of env.old) (before_of before.old) (expr_of e.now)) (first_rule (env_of env.old) (expr_of form.now) (place_of (expr_of e.now)))) }
     ensures counted { OnOk result (before_of before.new ≡ after (before_of before.old) (expr_of e.now)) }
     ensures kept { OnOk result (env.new ≡ env.old) }
 {
     let given = tree(alloc, env, before, e)?;
-    assignable(e.at, given)
+    first_given(alloc, env, form, e.at, given)
 }
 
 // What an operand gives that isn't evaluated (C99 6.5.3.4 paragraph 2).
@@ -206,25 +194,6 @@ fn designated<'t>(
             callee_by_value(alloc, at, given)
         }
     }
-}
-
-// `++` and `--`, which give the old value or the new one (C99 6.5.2.4, 6.5.3.1).
-#[cycle(expression)]
-fn stepped<'t>(
-    alloc: Global,
-    env: &mut Environment<'t>,
-    before: &mut Before<'t>,
-    at: u32,
-    op: BinOp,
-    old: bool,
-    a: &'t Expr,
-) -> Result<TypedExpression, CheckError>
-    ensures judged { AgreesWith typed_expression_of result (on (place_at (place_of (expr_of a.now)) (tree (env_of env.old) (before_of before.old) (expr_of a.now))) (step (env_of env.old) at op old)) }
-    ensures counted { OnOk result (before_of before.new ≡ after (before_of before.old) (expr_of a.now)) }
-    ensures kept { OnOk result (env.new ≡ env.old) }
-{
-    let given = place(alloc, env, before, a)?;
-    step(alloc, env, at, op, old, given)
 }
 
 /// The type that a name of a type names (C99 6.7.6).

@@ -7,7 +7,7 @@ use Rattle.std.specs.List.{HoldsAt}
 use Rattle.std.proofs.lemmas.Option.{slice_get_past, slice_get-get_or}
 use Rattle.std.proofs.lemmas.Bool.{eq-eqb}
 use Rattle.std.proofs.lemmas.Bool.Decides.{eqb_tells}
-use Rattle.indexmap.specs.IndexMap.{IndexMap, get_by}
+use Rattle.std.specs.HashMap.{HashMap, get_by}
 use Rattle.c_rules.specs.Scopes.{Binding, lookup}
 use Rattle.c_check_scopes.specs.declared.scopes.Entry.{Entry}
 use Rattle.c_check_scopes.specs.Bound.{Bound, binding_of, bindings_of, place}
@@ -97,7 +97,7 @@ pushed : (es : List Entry) (e : Entry) (x : List ℕ) → cond (bytes_eq e.name.
 pushed es e x =
     ap (λ n. cond (bytes_eq e.name.now x) (Some n) (place (onto es []) x)) (omega (arith, length_onto es [])) ∙ sym (ap (λ bs. place bs x) (onto_push es e []))
 
-pub declared : {S : Type 0} (m n : IndexMap (Bor (List ℕ)) (Option ℕ) S) (es : List Entry) (e : Entry) (k : ℕ) → ((q : Bor (List ℕ)) → get_by (λ b. bytes_eq q.now b.now) n ≡ cond (bytes_eq e.name.now q.now) (Some (Some k)) (get_by (λ b. bytes_eq q.now b.now) m)) → k ≡ length es → e.hidden ≡ place (onto es []) e.name.now → IsIndex m es → IsIndex n (es ++ e ∷ [])
+pub declared : {S : Type 0} (m n : HashMap (Bor (List ℕ)) (Option ℕ) S) (es : List Entry) (e : Entry) (k : ℕ) → ((q : Bor (List ℕ)) → get_by (λ b. bytes_eq q.now b.now) n ≡ cond (bytes_eq e.name.now q.now) (Some (Some k)) (get_by (λ b. bytes_eq q.now b.now) m)) → k ≡ length es → e.hidden ≡ place (onto es []) e.name.now → IsIndex m es → IsIndex n (es ++ e ∷ [])
 declared m n es e k u l h i = record {
   finds = λ x. ap joined (u (record e.name { now = x })) ∙ joined_cond (bytes_eq e.name.now x) (Some k) (get_by (λ b. bytes_eq x b.now) m)
       ∙ ap (cond (bytes_eq e.name.now x) (Some k)) (i.finds x) ∙ ap (λ j. cond (bytes_eq e.name.now x) (Some j) (place (onto es []) x)) l ∙ pushed es e x;
@@ -111,14 +111,14 @@ hidden_there false n h l q = refl
 place_pushed : (es : List Entry) (e : Entry) (x : List ℕ) → place (onto (es ++ e ∷ []) []) x ≡ cond (bytes_eq e.name.now x) (Some (length (onto es []))) (place (onto es []) x)
 place_pushed es e x = ap (λ bs. place bs x) (onto_push es e [])
 
-pub undone : {S : Type 0} (m n : IndexMap (Bor (List ℕ)) (Option ℕ) S) (es : List Entry) (e : Entry) → IsIndex m (es ++ e ∷ []) → ((q : Bor (List ℕ)) → get_by (λ b. bytes_eq q.now b.now) n ≡ cond (bytes_eq e.name.now q.now) (Some e.hidden) (get_by (λ b. bytes_eq q.now b.now) m)) → IsIndex n es
+pub undone : {S : Type 0} (m n : HashMap (Bor (List ℕ)) (Option ℕ) S) (es : List Entry) (e : Entry) → IsIndex m (es ++ e ∷ []) → ((q : Bor (List ℕ)) → get_by (λ b. bytes_eq q.now b.now) n ≡ cond (bytes_eq e.name.now q.now) (Some e.hidden) (get_by (λ b. bytes_eq q.now b.now) m)) → IsIndex n es
 undone m n es e i u = let p = hides_pop [] es e i.hides in record {
   finds = λ x. ap joined (u (record e.name { now = x })) ∙ joined_cond (bytes_eq e.name.now x) e.hidden (get_by (λ b. bytes_eq x b.now) m) ∙ ap (cond (bytes_eq e.name.now x) e.hidden) (i.finds x ∙ place_pushed es e x)
       ∙ hidden_there (bytes_eq e.name.now x) (length (onto es [])) e.hidden (place (onto es []) x) (λ t. p.0 ∙ ap (place (onto es [])) (same_name e.name.now x t));
   hides = p.1;
 }
 
-pub there : {S : Type 0} (m : IndexMap (Bor (List ℕ)) (Option ℕ) S) (es : List Entry) (e : Entry) → IsIndex m (es ++ e ∷ []) → get_by (λ b. bytes_eq e.name.now b.now) m ≡ None → ⊥
+pub there : {S : Type 0} (m : HashMap (Bor (List ℕ)) (Option ℕ) S) (es : List Entry) (e : Entry) → IsIndex m (es ++ e ∷ []) → get_by (λ b. bytes_eq e.name.now b.now) m ≡ None → ⊥
 there m es e i g =
     let q = sym (ap joined g) ∙ i.finds e.name.now ∙ place_pushed es e e.name.now ∙ ap (λ t. cond t (Some (length (onto es []))) (place (onto es []) e.name.now)) (self_eq e.name.now) in
     none_not_some (length (onto es [])) q
@@ -127,7 +127,7 @@ some : {A : Type 0} (o : Option A) → (o ≡ None → ⊥) → IsSome o
 some None f = absurd (f refl)
 some (Some x) f = search rules
 
-pub some_there : {S : Type 0} (m : IndexMap (Bor (List ℕ)) (Option ℕ) S) (es : List Entry) (e : Entry) → IsIndex m (es ++ e ∷ []) → IsSome (get_by (λ b. bytes_eq e.name.now b.now) m)
+pub some_there : {S : Type 0} (m : HashMap (Bor (List ℕ)) (Option ℕ) S) (es : List Entry) (e : Entry) → IsIndex m (es ++ e ∷ []) → IsSome (get_by (λ b. bytes_eq e.name.now b.now) m)
 some_there m es e i = some _ (there m es e i)
 
 pub taken : (old new : List Entry) (e : Entry) (b : Bound) (bs : List Bound) → old ≡ new ++ e ∷ [] → onto old [] ≡ b ∷ bs → onto new [] ≡ bs

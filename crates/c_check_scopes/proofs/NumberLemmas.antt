@@ -1,7 +1,7 @@
 -- The map as the first places of names, after one more.
 use Rattle.std.proofs.Common.{◌≡◌, ℕ, suc, List, [], ◌∷◌, ◌++◌, Option, Some, None, Bool, true, false, cond, length, refl, ap, sym, ◌∙◌, arith, Bor}
 use Rattle.std.specs.Prelude.{option_map, is_some, bytes_eq}
-use Rattle.indexmap.specs.IndexMap.{IndexMap, get_by}
+use Rattle.std.specs.HashMap.{HashMap, get_by}
 use Rattle.c_rules.specs.Names.{Name, number_among, is_among, with_new}
 use Rattle.c_check_scopes.specs.Numbers.{seen, AreNumbers}
 use Rattle.c_check_scopes.proofs.CountLemmas.{same_name, none_not_some}
@@ -39,7 +39,7 @@ old_stays None true n h = let w = h refl in absurd (none_not_some w.0 w.1)
 old_stays None false n h = refl
 
 -- a name that is there already
-pub known_pushed : {S : Type 0} (first : IndexMap (Bor (List ℕ)) ℕ S) (names : List (Bor (List ℕ))) (x : Bor (List ℕ)) (i : ℕ) → number_among (seen names) x.now ≡ Some i → AreNumbers first names → AreNumbers first (names ++ x ∷ [])
+pub known_pushed : {S : Type 0} (first : HashMap (Bor (List ℕ)) ℕ S) (names : List (Bor (List ℕ))) (x : Bor (List ℕ)) (i : ℕ) → number_among (seen names) x.now ≡ Some i → AreNumbers first names → AreNumbers first (names ++ x ∷ [])
 known_pushed first names x i k h = record {
   finds = λ y. h.finds y ∙ (old_stays (number_among (seen names) y) (bytes_eq x.now y) (length (seen names)) (λ t. (i, ap (number_among (seen names)) (sym (same_name x.now y t)) ∙ k))
       ∙ (sym (number_pushed (seen names) x.now y) ∙ sym (ap (λ ys. number_among ys y) (seen_push names x))));
@@ -51,7 +51,7 @@ new_there (Some i) false n h = refl
 new_there None t n h = refl
 
 -- a new name
-pub new_pushed : {S : Type 0} (first after : IndexMap (Bor (List ℕ)) ℕ S) (names : List (Bor (List ℕ))) (x : Bor (List ℕ)) (n : ℕ) → number_among (seen names) x.now ≡ None → n ≡ length names
+pub new_pushed : {S : Type 0} (first after : HashMap (Bor (List ℕ)) ℕ S) (names : List (Bor (List ℕ))) (x : Bor (List ℕ)) (n : ℕ) → number_among (seen names) x.now ≡ None → n ≡ length names
     → ((q : Bor (List ℕ)) → get_by (λ b. bytes_eq q.now b.now) after ≡ cond (bytes_eq x.now q.now) (Some n) (get_by (λ b. bytes_eq q.now b.now) first)) → AreNumbers first names → AreNumbers after (names ++ x ∷ [])
 new_pushed first after names x n k l u h = record {
   finds = λ y. u (record x { now = y }) ∙ (ap (cond (bytes_eq x.now y) (Some n)) (h.finds y)
@@ -75,10 +75,10 @@ none_by None h = refl
 none_by (Some i) h = absurd (not_so (sym h))
 
 -- a name that is there, and one that isn't
-pub known_in : {S : Type 0} (first : IndexMap (Bor (List ℕ)) ℕ S) (names : List (Bor (List ℕ))) (x : Bor (List ℕ)) (now : List Name) (t : Bool) → seen names ≡ now → t ≡ is_among now x.now → t ≡ true → AreNumbers first names → AreNumbers first (names ++ x ∷ [])
+pub known_in : {S : Type 0} (first : HashMap (Bor (List ℕ)) ℕ S) (names : List (Bor (List ℕ))) (x : Bor (List ℕ)) (now : List Name) (t : Bool) → seen names ≡ now → t ≡ is_among now x.now → t ≡ true → AreNumbers first names → AreNumbers first (names ++ x ∷ [])
 known_in first names x now t v e q h =
     let w = some_by (number_among (seen names) x.now) (ap (λ z. is_among z x.now) v ∙ (sym e ∙ q)) in known_pushed first names x w.0 w.1 h
 
-pub new_in : {S : Type 0} (first after : IndexMap (Bor (List ℕ)) ℕ S) (names : List (Bor (List ℕ))) (x : Bor (List ℕ)) (n : ℕ) (now : List Name) (t : Bool) → seen names ≡ now → t ≡ is_among now x.now → t ≡ false → n ≡ length names
+pub new_in : {S : Type 0} (first after : HashMap (Bor (List ℕ)) ℕ S) (names : List (Bor (List ℕ))) (x : Bor (List ℕ)) (n : ℕ) (now : List Name) (t : Bool) → seen names ≡ now → t ≡ is_among now x.now → t ≡ false → n ≡ length names
     → ((q : Bor (List ℕ)) → get_by (λ b. bytes_eq q.now b.now) after ≡ cond (bytes_eq x.now q.now) (Some n) (get_by (λ b. bytes_eq q.now b.now) first)) → AreNumbers first names → AreNumbers after (names ++ x ∷ [])
 new_in first after names x n now t v e q l u h = new_pushed first after names x n (none_by (number_among (seen names) x.now) (ap (λ z. is_among z x.now) v ∙ (sym e ∙ q))) l u h

@@ -1,7 +1,7 @@
 -- For private contracts and proofs alone: how a map and entries make scopes.
 use Rattle.std.specs.Prelude.{◌≡◌, ℕ, List, [], ◌∷◌, Option, Some, None, bytes_eq}
 use Rattle.std.specs.Borrow.{Bor}
-use Rattle.indexmap.specs.IndexMap.{IndexMap, get_by}
+use Rattle.std.specs.HashMap.{HashMap, get_by}
 use Rattle.c_check_scopes.specs.declared.scopes.Entry.{Entry}
 use Rattle.c_check_scopes.specs.Bound.{Bound, bound, place}
 
@@ -23,6 +23,6 @@ joined None = None
 joined (Some x) = x
 
 -- the map has the number of the newest entry of each name, or None
-pub record IsIndex {S : Type 0} (newest : IndexMap (Bor (List ℕ)) (Option ℕ) S) (entries : List Entry) : Type 0 where
+pub record IsIndex {S : Type 0} (newest : HashMap (Bor (List ℕ)) (Option ℕ) S) (entries : List Entry) : Type 0 where
   pub finds : (x : List ℕ) → joined (get_by (λ k. bytes_eq x k.now) newest) ≡ place (onto entries []) x
   pub hides : Hides [] entries

@@ -17,7 +17,7 @@ use c_tree::CType;
 use dm_counts::{Count, Mode};
 
 /// Whether what stands here is evaluated when the program runs.
-#[derive(Clone, Copy, Debug, PartialEq, Eq)]
+#[derive(Clone, Copy)]
 pub enum Context {
     /// It is.
     Evaluated,

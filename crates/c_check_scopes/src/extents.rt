@@ -6,7 +6,7 @@ ghost use Rattle.c_check_scopes.specs.Extents.{extent_seen};
 use c_tree::IntType;
 
 /// The bytes that an object takes, and the number of which its address is a multiple (C99 6.5.3.4).
-#[derive(Clone, Copy, Debug, PartialEq, Eq)]
+#[derive(Clone, Copy)]
 pub struct Extent {
     /// The bytes that it takes.
     pub size: u32,

@@ -2,14 +2,14 @@ ghost use Rattle.std.specs.Prelude.{◌≡◌, ℕ, List, [], ◌∷◌, ◌++�
 ghost use Rattle.c_rules.specs.Names.{number_among, is_among, with_new};
 
 use dm_counts::OutOfMemory;
-use indexmap::IndexMap;
 use std::alloc::Global;
+use std::collections::HashMap;
 use std::marker::Model;
 
 /// A list of names, which tells the first place of each.
 #[derive(Drop)]
 pub struct Numbering<'t> {
-    first: IndexMap<&'t [u8], usize>,
+    first: HashMap<&'t [u8], usize>,
     names: Vec<&'t [u8]>,
 }
 
@@ -31,7 +31,7 @@ impl<'t> Numbering<'t> {
         ensures { result ≡ [] }
     {
         Numbering {
-            first: IndexMap::new(alloc),
+            first: HashMap::new(alloc),
             names: Vec::new(alloc),
         }
     }

@@ -5,8 +5,8 @@ ghost use Rattle.c_check_scopes.specs.View.{found};
 
 use crate::meaning::Meaning;
 use dm_counts::{Count, OutOfMemory};
-use indexmap::IndexMap;
 use std::alloc::Global;
+use std::collections::HashMap;
 use std::marker::Model;
 
 /// A name that is declared.
@@ -25,7 +25,7 @@ pub struct Entry<'t> {
 /// The names that are declared, seen as a list with the newest first.
 #[derive(Drop)]
 pub struct Scopes<'t> {
-    newest: IndexMap<&'t [u8], Option<usize>>,
+    newest: HashMap<&'t [u8], Option<usize>>,
     entries: Vec<Entry<'t>>,
 }
 
@@ -52,7 +52,7 @@ impl<'t> Scopes<'t> {
         ensures { result ≡ [] }
     {
         Scopes {
-            newest: IndexMap::new(alloc),
+            newest: HashMap::new(alloc),
             entries: Vec::new(alloc),
         }
     }

@@ -1,7 +1,7 @@
 ghost use Rattle.std.specs.Prelude.{◌≡◌, ◌<◌, ◌-◌};
 
 /// What the limits still allow where a phrase begins.
-#[derive(Clone, Copy, Debug, PartialEq, Eq)]
+#[derive(Clone, Copy)]
 pub struct Room {
     /// The greatest height of a phrase: so many counted nodes may stand in each other.
     pub nodes: u32,

@@ -18,7 +18,7 @@ impl Drop for Ident {
 }
 
 /// A storage-class specifier (C99 6.7.1).
-#[derive(Clone, Copy, Debug, PartialEq, Eq)]
+#[derive(Clone, Copy)]
 pub enum Storage {
     /// None stands there.
     Absent,

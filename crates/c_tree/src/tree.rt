@@ -158,7 +158,7 @@ impl Drop for TInit {
 }
 
 /// A label of a switch (C99 6.8.1).
-#[derive(Clone, Copy, Debug, PartialEq, Eq)]
+#[derive(Clone, Copy)]
 pub enum TLabel {
     /// `case` and its value, which was converted to the type of what is compared.
     Case(Value),

@@ -1,6 +1,6 @@
 /// An integer type of the C profile (C99 6.2.5). `char` is signed with 8 bits, and `int` and `unsigned int`
 /// have 32 bits.
-#[derive(Clone, Copy, Debug, PartialEq, Eq)]
+#[derive(Clone, Copy, PartialEq, Eq)]
 pub enum IntType {
     /// `char`, −128 to 127
     Char,
@@ -13,7 +13,7 @@ pub enum IntType {
 }
 
 /// A unary operator on a scalar (C99 6.5.3.3). Unary `+` is a conversion.
-#[derive(Clone, Copy, Debug, PartialEq, Eq)]
+#[derive(Clone, Copy)]
 pub enum UnOp {
     /// `-`
     Minus,
@@ -24,7 +24,7 @@ pub enum UnOp {
 }
 
 /// A binary operator of C99 6.5.5 to 6.5.12.
-#[derive(Clone, Copy, Debug, PartialEq, Eq)]
+#[derive(Clone, Copy)]
 pub enum BinOp {
     /// `*` (6.5.5)
     Mul,
@@ -61,7 +61,7 @@ pub enum BinOp {
 }
 
 /// The name of an object of a run.
-#[derive(Clone, Copy, Debug, PartialEq, Eq, PartialOrd, Ord)]
+#[derive(Clone, Copy)]
 pub struct ObjectName {
     /// 0 for a static object or a string, and n for an object of the n-th function entry of the run.
     pub activation: u64,
@@ -71,7 +71,7 @@ pub struct ObjectName {
 
 /// A pointer to an element of an array, or one past its last (C99 6.5.6 paragraph 8). An object that is no
 /// element of an array is an array of one.
-#[derive(Clone, Copy, Debug, PartialEq, Eq)]
+#[derive(Clone, Copy)]
 pub struct Pointer {
     /// The object in which the array lies.
     pub name: ObjectName,
@@ -86,7 +86,7 @@ pub struct Pointer {
 }
 
 /// What a cell holds, and what an expression gives.
-#[derive(Clone, Copy, Debug, PartialEq, Eq)]
+#[derive(Clone, Copy)]
 pub enum Value {
     /// An indeterminate value (C99 3.17.2).
     Indeterminate,

@@ -1,7 +1,7 @@
 -- What a change of the table does to the objects that there are.
 use Rattle.std.proofs.Common.{◌≡◌, ℕ, ◌+◌, Bool, true, false, cond, if◌then◌else◌, ◌&&◌, nat_eq, List, Option, Some, slice_get, ap, sym, ◌∙◌, refl}
 use Rattle.std.specs.Prelude.{Result, Ok, Err, OnErr}
-use Rattle.indexmap.specs.IndexMap.{IndexMap, get}
+use Rattle.std.specs.HashMap.{HashMap, get}
 use Rattle.c_tree.specs.declared.value.ObjectName.{ObjectName}
 use Rattle.c_tree.specs.declared.value.Pointer.{Pointer}
 use Rattle.c_tree.specs.declared.value.Value.{Value}
@@ -18,7 +18,7 @@ abbrev pub key_of : ObjectName → ℕ × ℕ
 key_of x = (x.activation, x.variable)
 
 -- a table, as the objects that there are
-abbrev pub seen_in : {S : Type 0} → IndexMap (ℕ × ℕ) Held S → Objects
+abbrev pub seen_in : {S : Type 0} → HashMap (ℕ × ℕ) Held S → Objects
 seen_in m x = as_object (get same_key m (key_of x))
 
 picked : (a b : Bool) (w o : Option Held) → as_object (cond (a && b) w o) ≡ (if (if a then b else false) then as_object w else as_object o)
@@ -27,7 +27,7 @@ picked true false w o = refl
 picked false b w o = refl
 
 -- the table has this under the name's key, and the others as before
-pub updated : {S : Type 0} (m n : IndexMap (ℕ × ℕ) Held S) (x : ObjectName) (k : ℕ × ℕ) (w : Option Held) → k ≡ key_of x → ((q : ℕ × ℕ) → get same_key n q ≡ cond (same_key k q) w (get same_key m q)) → seen_in n ≡ changed (seen_in m) x (as_object w)
+pub updated : {S : Type 0} (m n : HashMap (ℕ × ℕ) Held S) (x : ObjectName) (k : ℕ × ℕ) (w : Option Held) → k ≡ key_of x → ((q : ℕ × ℕ) → get same_key n q ≡ cond (same_key k q) w (get same_key m q)) → seen_in n ≡ changed (seen_in m) x (as_object w)
 updated m n x k w is h = λ i y. step y i
   where
     step : (y : ObjectName) → seen_in n y ≡ changed (seen_in m) x (as_object w) y

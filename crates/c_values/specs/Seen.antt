@@ -1,6 +1,6 @@
 -- Memory as the code holds it, as the objects that there are.
 use Rattle.std.specs.Prelude.{ℕ, Bool, ◌&&◌, nat_eq, Option, None, Some}
-use Rattle.indexmap.specs.IndexMap.{get}
+use Rattle.std.specs.HashMap.{get}
 use Rattle.c_values.specs.declared.held.Held.{Held}
 use Rattle.c_values.specs.declared.memory.Memory.{Memory}
 use Rattle.c_values.specs.Memory.{Object, Objects}

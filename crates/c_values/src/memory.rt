@@ -8,15 +8,15 @@ ghost use Rattle.c_values.specs.Seen.{seen};
 use crate::held::Held;
 use crate::kinds::kind;
 use c_tree::{Kind, ObjectName, OutOfMemory, Pointer, Value};
-use indexmap::IndexMap;
 use std::alloc::Global;
+use std::collections::HashMap;
 
 /// The objects of a run: for each name that is there the values of its cells, and whether it is a string literal.
 /// An object is found by its name in a time that does not grow with their number.
 #[derive(Drop)]
 pub struct Memory {
     alloc: Global,
-    objects: IndexMap<(u64, u32), Held>,
+    objects: HashMap<(u64, u32), Held>,
 }
 
 fn key(name: ObjectName) -> (u64, u32)
@@ -32,7 +32,7 @@ impl Memory {
     {
         Memory {
             alloc,
-            objects: IndexMap::new(alloc),
+            objects: HashMap::new(alloc),
         }
     }
 
@@ -67,7 +67,7 @@ impl Memory {
     pub fn end(&mut self, name: ObjectName)
         ensures { seen self.new ≡ ended (seen self.old) name }
     {
-        let _ended = self.objects.swap_remove(&key(name));
+        let _ended = self.objects.remove(&key(name));
     }
 
     /// The value of a cell of the element that is pointed to. It refuses with kind 6 where the object is not there,

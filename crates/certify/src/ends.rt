@@ -13,7 +13,7 @@ use indexmap::IndexMap;
 use std::alloc::Global;
 
 // An activation: after how many events it was entered, and its function.
-#[derive(Clone, Copy, Debug, PartialEq, Eq, Hash)]
+#[derive(Clone, Copy, PartialEq, Eq, Hash)]
 pub struct Activation {
     pub entered: u32,
     pub function: u32,

@@ -1,7 +1,7 @@
 use dm_base::OutOfMemory;
 
 /// Why a certificate isn't confirmed. Lines count from 1, the three of the head among them.
-#[derive(Clone, Copy, Debug, PartialEq, Eq)]
+#[derive(Clone, Copy, PartialEq, Eq)]
 pub enum ConfirmError {
     /// Memory was refused.
     OutOfMemory,

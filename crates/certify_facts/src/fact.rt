@@ -1,5 +1,5 @@
 /// A model whose verdicts are certified.
-#[derive(Clone, Copy, Debug, PartialEq, Eq)]
+#[derive(Clone, Copy)]
 pub enum Judge {
     /// The callgraph model, a finite automaton (Wagner and Dean 2001).
     Callgraph,
@@ -8,7 +8,7 @@ pub enum Judge {
 }
 
 /// A fact about a model and a trace. Events are counted from 1, null calls among them.
-#[derive(Clone, Copy, Debug, PartialEq, Eq, Hash)]
+#[derive(Clone, Copy, PartialEq, Eq, Hash)]
 pub enum Fact {
     /// After k events a walk of the callgraph model may be at the node v.
     Callgraph {
@@ -35,7 +35,7 @@ pub enum Fact {
 }
 
 /// Why a fact follows from earlier ones, which go by their numbers, from 1.
-#[derive(Clone, Copy, Debug, PartialEq, Eq)]
+#[derive(Clone, Copy)]
 pub enum Reason {
     /// A run begins so.
     Start,
@@ -54,7 +54,7 @@ pub enum Reason {
 }
 
 /// A fact with its reason.
-#[derive(Clone, Copy, Debug, PartialEq, Eq)]
+#[derive(Clone, Copy)]
 pub struct FactLine {
     pub fact: Fact,
     pub reason: Reason,

@@ -1,7 +1,7 @@
 use std::alloc::AllocFailed;
 
 /// Why the text of a certificate was refused. Lines count from 1, the first three among them.
-#[derive(Clone, Copy, Debug, PartialEq, Eq)]
+#[derive(Clone, Copy, PartialEq, Eq)]
 pub enum CertificateError {
     /// Memory was refused.
     OutOfMemory,

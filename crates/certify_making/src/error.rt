@@ -1,7 +1,7 @@
 use dm_base::OutOfMemory;
 
 /// Why no certificate is made.
-#[derive(Clone, Copy, Debug, PartialEq, Eq)]
+#[derive(Clone, Copy)]
 pub enum CertifyError {
     /// Memory was refused.
     OutOfMemory,

@@ -10,7 +10,7 @@ use indexmap::IndexMap;
 use std::alloc::Global;
 
 // The facts that are noted of an activation, which has its function and was entered after so many events.
-#[derive(Clone, Copy, Debug, PartialEq, Eq, Hash)]
+#[derive(Clone, Copy, PartialEq, Eq, Hash)]
 pub enum Key {
     // Those at its exit.
     Exits { entered: u32, function: u32 },

@@ -1,5 +1,5 @@
 /// Which limits a C text may use, and which reserved names.
-#[derive(Clone, Copy, Debug, PartialEq, Eq)]
+#[derive(Clone, Copy)]
 pub enum Mode {
     /// A text as it was written by hand.
     Plain,

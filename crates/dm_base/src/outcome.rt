@@ -3,7 +3,7 @@ ghost use Rattle.std.specs.Prelude.{◌≡◌, ◌<◌, ◌≤◌, ◌↔◌, If
 use std::marker::Model;
 
 /// A kind of undefined behaviour, U1 to U12, by its number.
-#[derive(Clone, Copy, Debug, PartialEq, Eq)]
+#[derive(Clone, Copy)]
 pub struct Kind {
     held: u8,
 }
@@ -45,7 +45,7 @@ impl Kind {
 
 /// How a run of a program ended. It holds no place, so that a plain run and an instrumented one
 /// can have equal outcomes.
-#[derive(Clone, Copy, Debug, PartialEq, Eq)]
+#[derive(Clone, Copy)]
 pub enum Outcome {
     /// `main` returned this value.
     Exit(i32),
@@ -60,7 +60,7 @@ pub enum Outcome {
 }
 
 /// How a recorded trace ended.
-#[derive(Clone, Copy, Debug, PartialEq, Eq)]
+#[derive(Clone, Copy)]
 pub enum TraceEnd {
     /// It may go on.
     Open,

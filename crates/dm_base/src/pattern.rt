@@ -11,7 +11,7 @@ use std::marker::Model;
 /// at most three. An entry is None where any value fits, or the number that the argument is.
 /// Patterns are ordered as their lists: entry by entry, None before every number, numbers by
 /// value, and a list before the longer ones that begin with it.
-#[derive(Clone, Copy, Debug)]
+#[derive(Clone, Copy)]
 pub struct Pattern {
     entries: [Option<i64>; 3],
     held: u8,

@@ -2,7 +2,7 @@ ghost use Rattle.std.specs.Prelude.{◌≡◌};
 ghost use Rattle.dm_base.specs.Codes.{code_of};
 
 /// What a monitor says of one event.
-#[derive(Clone, Copy, Debug, PartialEq, Eq)]
+#[derive(Clone, Copy, PartialEq, Eq)]
 pub enum Step {
     /// The trace is in the language still, and within the bound.
     Kept,
@@ -13,7 +13,7 @@ pub enum Step {
 }
 
 /// What a monitor says of a trace. Events are counted from 1, null calls among them.
-#[derive(Clone, Copy, Debug, PartialEq, Eq)]
+#[derive(Clone, Copy, PartialEq, Eq)]
 pub enum Verdict {
     /// Each event was kept. There are so many.
     Accepted { events: u64 },
@@ -24,7 +24,7 @@ pub enum Verdict {
 }
 
 /// How a run of the tool ended.
-#[derive(Clone, Copy, Debug, PartialEq, Eq)]
+#[derive(Clone, Copy)]
 pub enum Status {
     /// The text was written; each verdict that was asked for is Accepted.
     Done,

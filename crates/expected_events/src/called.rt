@@ -13,7 +13,7 @@ use std::alloc::Global;
 
 /// A system call, and the pattern of an edge that reads it. They are ordered by their fields from the
 /// first on.
-#[derive(Clone, Copy, Debug, PartialEq, Eq, PartialOrd, Ord)]
+#[derive(Clone, Copy, PartialEq, Eq, PartialOrd, Ord)]
 pub struct Called {
     pub name: SysName,
     pub args: Pattern,

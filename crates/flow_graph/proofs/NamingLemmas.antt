@@ -1,5 +1,5 @@
 -- The functions that mentions name, and the types of the pointers that they call.
-use Rattle.std.proofs.Common.{◌≡◌, ◌⊎◌, ◌↔◌, ℕ, ◌<◌, List, [], ◌∷◌, ◌++◌, length, Contains, refl, sym, ◌∙◌, ap, subst, inl, inr, append-nil}
+use Rattle.std.proofs.Common.{◌≡◌, ◌⊎◌, ◌↔◌, ℕ, ◌<◌, List, [], ◌∷◌, ◌++◌, length, Contains, refl, sym, ◌∙◌, ap, subst, inl, inr, arith, append-nil}
 use Rattle.std.specs.Borrow.{Bor}
 use Rattle.std.proofs.lemmas.List.{map-append}
 use Rattle.std.proofs.lemmas.List.Elements.{Contains-append_left, Contains-push, Contains-push_cases}
@@ -9,10 +9,10 @@ use Rattle.c_tree.specs.Tree.{CType}
 use Rattle.c_tree.specs.View.{ctype_of}
 use Rattle.c_meaning.specs.Mentions.{Callee, Through, Mention, Named, Calls}
 use Rattle.flow_graph.specs.declared.mention.Mention.{Mention as Told}
-use Rattle.dm_base.specs.Adding.{Has, Adds}
+use Rattle.dm_base.specs.Adding.{Has, Adds, Gains}
 use Rattle.flow_graph.specs.Saying.{mention_of, said}
 use Rattle.flow_graph.specs.Types.{types_at, first_place, IsThrough}
-use Rattle.dm_base.proofs.AddingLemmas.{adds_same, are_all}
+use Rattle.dm_base.proofs.AddingLemmas.{gains_same, are_all}
 use Rattle.c_meaning.proofs.Members.{in_map, from_map}
 use Rattle.flow_graph.proofs.ReachingLemmas.{first_within}
 
@@ -26,15 +26,17 @@ same_type_called : {s r : ℕ} {t u : CType} → Calls s (Through t) ≡ Calls r
 same_type_called e = cc
 
 -- a mention that names f
-pub adds_name : (old new : List ℕ) (m : Mention) (f : ℕ) → m ≡ Named f → Adds old new (λ g. g ≡ f) → Adds old new (λ g. m ≡ Named g)
-adds_name old new m f is adds = adds_same old new (λ g. g ≡ f) (λ g. m ≡ Named g) (λ g. (λ e. is ∙ ap Named (sym e), λ e. same_name (sym e ∙ is))) adds
+pub gains_name : (old new : List ℕ) (m : Mention) (f : ℕ) → m ≡ Named f → Gains (Contains old) (Contains new) (λ g. g ≡ f) → Gains (Contains old) (Contains new) (λ g. m ≡ Named g)
+gains_name old new m f is gains = gains_same (Contains old) (Contains new) (λ g. g ≡ f) (λ g. m ≡ Named g) (λ g. (λ e. is ∙ ap Named (sym e), λ e. same_name (sym e ∙ is))) gains
 
-pub named_all : (ms : List Told) (keys : List ℕ) → Adds [] keys (λ g. Has (λ m. mention_of m ≡ Named g) ms) → (f : ℕ) → Contains keys f ↔ Contains (said ms) (Named f)
-named_all ms keys adds f =
-    let all = are_all keys (λ g. Has (λ m. mention_of m ≡ Named g) ms) adds f in (
-      λ has. let r = all.0 has in subst (Contains (said ms)) r.2 (in_map mention_of ms r.0 r.1),
-      λ has. all.1 (from_map mention_of ms (Named f) has),
-    )
+pub named_all : (ms : List Told) (keys : List ℕ) → Gains (Contains []) (Contains keys) (λ g. Has (λ m. mention_of m ≡ Named g) ms) → (f : ℕ) → Contains keys f ↔ Contains (said ms) (Named f)
+named_all ms keys gains f = (
+  λ has. elim ((gains f).0 has) as (λ _. Contains (said ms) (Named f)) [
+    | inl none ↦ absurd (omega (arith, none.1))
+    | inr r ↦ subst (Contains (said ms)) r.2 (in_map mention_of ms r.0 r.1)
+  ],
+  λ has. (gains f).1 (inr (from_map mention_of ms (Named f) has)),
+)
 
 -- a mention that calls a pointer
 pub adds_type : (types : List (Bor TypeTree)) (t : Bor TypeTree) (m : Mention) (s : ℕ) → m ≡ Calls s (Through (ctype_of t.now)) → Adds (types_at types) (types_at (types ++ t ∷ [])) (λ u. IsThrough u m)

@@ -1,5 +1,5 @@
 -- What lists of trees say of functions, one after another.
-use Rattle.std.proofs.Common.{◌≡◌, ℕ, ◌+◌, ◌<◌, ◌≤◌, List, [], ◌∷◌, ◌++◌, length, take, get_or, refl, sym, ap, ap₂, ◌∙◌}
+use Rattle.std.proofs.Common.{◌≡◌, ◌⊎◌, inl, inr, ℕ, Bool, ◌+◌, ◌<◌, ◌≤◌, List, [], ◌∷◌, ◌++◌, length, take, get_or, refl, sym, ap, ap₂, ◌∙◌}
 use Rattle.std.specs.Prelude.{flat_map}
 use Rattle.std.proofs.lemmas.List.{take_more, take_all, append_assoc, append-nil}
 use Rattle.std.proofs.lemmas.Grind.{flat_map-append}
@@ -11,8 +11,12 @@ use Rattle.c_tree.specs.declared.tree.Static.{Static as StaticTree}
 use Rattle.c_meaning.specs.Mentions.{mentions_of_function, mentions_of_static}
 use Rattle.std.specs.Prelude.{Box}
 use Rattle.c_tree.specs.declared.tree.TExpr.{TExpr}
-use Rattle.c_tree.specs.declared.tree.TExprKind.{TExprKind}
-use Rattle.c_tree.specs.declared.tree.TExprKind.TheVariants.{Comma, Call, CallThrough}
+use Rattle.c_tree.specs.declared.value.Value.{Value}
+use Rattle.c_tree.specs.declared.value.IntType.{IntType}
+use Rattle.c_tree.specs.declared.value.UnOp.{UnOp}
+use Rattle.c_tree.specs.declared.value.BinOp.{BinOp}
+use Rattle.c_tree.specs.declared.tree.TExprKind.{TExprKind, Const, StringPlace, Variable}
+use Rattle.c_tree.specs.declared.tree.TExprKind.TheVariants.{Deref, Load, AddressOf, Decay, Discard, Field, Unary, Convert, Arith, Compare, PointerAdd, PointerDiff, And, Or, Assign, Update, Comma, Call, CallThrough}
 use Rattle.c_tree.specs.declared.tree.TStmt.TheVariants.{Block, If, For, Switch}
 use Rattle.c_tree.specs.declared.tree.TInit.{TInit}
 use Rattle.c_tree.specs.declared.tree.TStmt.{TStmt}
@@ -62,17 +66,37 @@ then_on (Ok u) old mid new a b m first e is = is ∙ ap (λ ms. ms ++ b) first �
 then_on (Err x) old mid new a b m first e is = is
 
 -- what the form of an expression says: nothing, what its one part says, or what its two parts say
-pub of_leaf : (old : List Mention) (e : TExpr) (k : TExprKind) → e.kind ≡ k → mentions (expr_with (ctype_of e.ctype) k) ≡ [] → old ≡ old ++ mentions (expr_of e)
-of_leaf old e k is form = sym (append-nil old) ∙ ap (λ ms. old ++ ms) (sym (ap (λ k. mentions (expr_with (ctype_of e.ctype) k)) is ∙ form))
+of_kind : (e : TExpr) (k : TExprKind) → e.kind ≡ k → mentions (expr_of e) ≡ mentions (expr_with (ctype_of e.ctype) k)
+of_kind e k is = ap (λ k. mentions (expr_with (ctype_of e.ctype) k)) is
 
-pub of_part : (r : Result (Unit {0}) OutOfMemory) (old new : List Mention) (e f a : TExpr) (k : TExprKind) → e.kind ≡ k → f ≡ a → mentions (expr_with (ctype_of e.ctype) k) ≡ mentions (expr_of a)
-    → OnOk r (new ≡ old ++ mentions (expr_of f)) → OnOk r (new ≡ old ++ mentions (expr_of e))
-of_part r old new e f a k is same form = on_same r old new (mentions (expr_of e)) (mentions (expr_of f)) (ap (λ k. mentions (expr_with (ctype_of e.ctype) k)) is ∙ form ∙ ap (λ x. mentions (expr_of x)) (sym same))
+pub of_leaf : (e : TExpr) → ((v : Value) × (e.kind ≡ Const v)) ⊎ (((k : ℕ) × (e.kind ≡ StringPlace k)) ⊎ ((s : Bool) × (k : ℕ) × (e.kind ≡ Variable s k))) → mentions (expr_of e) ≡ []
+of_leaf e (inl h) = of_kind e (Const h.0) h.1
+of_leaf e (inr (inl h)) = of_kind e (StringPlace h.0) h.1
+of_leaf e (inr (inr h)) = of_kind e (Variable h.0 h.1) h.2
 
-pub of_two : (r : Result (Unit {0}) OutOfMemory) (old mid new : List Mention) (e f g a b : TExpr) (k : TExprKind) → e.kind ≡ k → f ≡ a → g ≡ b → mentions (expr_with (ctype_of e.ctype) k) ≡ mentions (expr_of a) ++ mentions (expr_of b)
-    → mid ≡ old ++ mentions (expr_of f) → OnOk r (new ≡ mid ++ mentions (expr_of g)) → OnOk r (new ≡ old ++ mentions (expr_of e))
-of_two r old mid new e f g a b k is one other form first = then_on r old mid new (mentions (expr_of f)) (mentions (expr_of g)) (mentions (expr_of e)) first
-    (ap (λ k. mentions (expr_with (ctype_of e.ctype) k)) is ∙ form ∙ ap₂ (λ x y. mentions (expr_of x) ++ mentions (expr_of y)) (sym one) (sym other))
+pub of_one : (e : TExpr) (a : Box TExpr Global)
+    → (e.kind ≡ Deref a) ⊎ ((e.kind ≡ Load a) ⊎ ((e.kind ≡ AddressOf a) ⊎ ((e.kind ≡ Decay a) ⊎ ((e.kind ≡ Discard a) ⊎ (((k : ℕ) × (e.kind ≡ Field a k)) ⊎ (((op : UnOp) × (e.kind ≡ Unary op a)) ⊎ ((t : IntType) × (e.kind ≡ Convert t a))))))))
+    → mentions (expr_of e) ≡ mentions (expr_of a.value)
+of_one e a (inl is) = of_kind e (Deref a) is
+of_one e a (inr (inl is)) = of_kind e (Load a) is
+of_one e a (inr (inr (inl is))) = of_kind e (AddressOf a) is
+of_one e a (inr (inr (inr (inl is)))) = of_kind e (Decay a) is
+of_one e a (inr (inr (inr (inr (inl is))))) = of_kind e (Discard a) is
+of_one e a (inr (inr (inr (inr (inr (inl h)))))) = of_kind e (Field a h.0) h.1
+of_one e a (inr (inr (inr (inr (inr (inr (inl h))))))) = of_kind e (Unary h.0 a) h.1
+of_one e a (inr (inr (inr (inr (inr (inr (inr h))))))) = of_kind e (Convert h.0 a) h.1
+
+pub of_two : (e : TExpr) (a b : Box TExpr Global)
+    → ((op : BinOp) × (e.kind ≡ Arith op a b)) ⊎ (((op : BinOp) × (e.kind ≡ Compare op a b)) ⊎ (((f s : Bool) × (e.kind ≡ PointerAdd f s a b)) ⊎ ((e.kind ≡ PointerDiff a b) ⊎ ((e.kind ≡ And a b) ⊎ ((e.kind ≡ Or a b) ⊎ ((e.kind ≡ Assign a b) ⊎ ((op : BinOp) × (old : Bool) × (e.kind ≡ Update op old a b))))))))
+    → mentions (expr_of e) ≡ mentions (expr_of a.value) ++ mentions (expr_of b.value)
+of_two e a b (inl h) = of_kind e (Arith h.0 a b) h.1
+of_two e a b (inr (inl h)) = of_kind e (Compare h.0 a b) h.1
+of_two e a b (inr (inr (inl h))) = of_kind e (PointerAdd h.0 h.1 a b) h.2
+of_two e a b (inr (inr (inr (inl is)))) = of_kind e (PointerDiff a b) is
+of_two e a b (inr (inr (inr (inr (inl is))))) = of_kind e (And a b) is
+of_two e a b (inr (inr (inr (inr (inr (inl is)))))) = of_kind e (Or a b) is
+of_two e a b (inr (inr (inr (inr (inr (inr (inl is))))))) = of_kind e (Assign a b) is
+of_two e a b (inr (inr (inr (inr (inr (inr (inr h))))))) = of_kind e (Update h.0 h.1 a b) h.2
 
 -- expressions and statements that hold lists
 pub of_comma : (e : TExpr) (v : Vec TExpr Global) → e.kind ≡ Comma v → mentions (expr_of e) ≡ mentions_of_all (exprs_of v.items)

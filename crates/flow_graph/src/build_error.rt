@@ -1,5 +1,5 @@
 /// Why no model was made of a program.
-#[derive(Clone, Copy, Debug, PartialEq, Eq)]
+#[derive(Clone, Copy)]
 pub enum BuildError {
     /// Memory was refused.
     OutOfMemory,

@@ -13,14 +13,15 @@ use crate::call_sites::{Place, places_of};
 use crate::callers::callers_of;
 use crate::mention::Mention;
 use crate::naming::named_in;
+use crate::nodes::Nodes;
 use crate::reaching::reaching_nodes;
 use crate::saying::said_in;
 use crate::sys_types::types_of_calls;
 use crate::types::{lists_of, types_in};
 use c_tree::{CType, Program};
 use dm_base::OutOfMemory;
-use indexmap::IndexSet;
 use std::alloc::Global;
+use std::collections::HashSet;
 use std::slice::from_ref;
 
 /// The call graph of a program: which functions have their names taken, which functions may be called at each
@@ -29,10 +30,10 @@ use std::slice::from_ref;
 /// and then the 24 system calls. The sites of pointers of one type share one list of candidates.
 pub struct Calls {
     defined: u32,
-    taken: IndexSet<u32>,
+    taken: HashSet<u32>,
     // The functions that may come to a system call, and after the functions the types of pointers through
     // which one of them may be called.
-    reaching: IndexSet<usize>,
+    reaching: Nodes,
     // The functions that may be called through each type.
     lists: Vec<Vec<u32>>,
     places: Vec<Option<Place>>,
@@ -54,7 +55,7 @@ impl Drop for Calls {
 fn lists_in(
     alloc: Global,
     program: &Program,
-    taken: &IndexSet<u32>,
+    taken: &HashSet<u32>,
     types: &[&CType],
 ) -> Result<Vec<Vec<u32>>, OutOfMemory>
     requires { AreTaken (program_of program.now) taken.now.keys }
@@ -70,7 +71,7 @@ fn reaching_in(
     program: &Program,
     types: &[&CType],
     lists: &[Vec<u32>],
-) -> Result<IndexSet<usize>, OutOfMemory>
+) -> Result<Nodes, OutOfMemory>
     ensures { IfOk result (λ found. AreReaching (program_of program.now) (types_at types.now) (items_of lists.now) found.keys) }
 {
     let callers = callers_of(alloc, program, types, lists)?;
@@ -117,7 +118,7 @@ impl Calls {
     pub fn reaches(&self, f: u32) -> bool
         ensures { (p : Tree) → AreCallsOf p self.now → f < defined p + 24 → result ≡ reaches p f }
     {
-        self.reaching.contains(&(f as usize))
+        self.reaching.contains(f as usize)
     }
 
     // What is called at the site.
@@ -153,11 +154,11 @@ impl Calls {
     {
         match self.place(site) {
             None => false,
-            Some(Place::Function(f)) => f < self.defined && self.reaching.contains(&(f as usize)),
+            Some(Place::Function(f)) => f < self.defined && self.reaching.contains(f as usize),
             Some(Place::Pointer(k)) => {
                 let first = self.defined as usize + 24;
                 match first.checked_add(k) {
-                    Some(node) => self.reaching.contains(&node),
+                    Some(node) => self.reaching.contains(node),
                     None => false,
                 }
             }

@@ -79,49 +79,38 @@ impl<'p> Reading<'p> {
         ensures { IfOk result (λ s. shape_of s ≡ expr_at self.now.defined self.now.marks.now (expr_of e.now)) }
     {
         match &e.kind {
-            TExprKind::Const(_) => Ok(Shape::Skip),
-            TExprKind::Function(_) => Ok(Shape::Skip),
-            TExprKind::StringPlace(_) => Ok(Shape::Skip),
-            TExprKind::Variable { .. } => Ok(Shape::Skip),
-            TExprKind::Deref(a) => self.expression(alloc, a),
-            TExprKind::Load(a) => self.expression(alloc, a),
-            TExprKind::AddressOf(a) => self.expression(alloc, a),
-            TExprKind::Decay(a) => self.expression(alloc, a),
-            TExprKind::Discard(a) => self.expression(alloc, a),
-            TExprKind::Field(a, _) => self.expression(alloc, a),
-            TExprKind::Unary(_, a) => self.expression(alloc, a),
-            TExprKind::Convert(_, a) => self.expression(alloc, a),
-            TExprKind::Arith(_, a, b) => {
+            TExprKind::Const(_)
+            | TExprKind::Function(_)
+            | TExprKind::StringPlace(_)
+            | TExprKind::Variable { .. } => Ok(Shape::Skip),
+            TExprKind::Deref(a)
+            | TExprKind::Load(a)
+            | TExprKind::AddressOf(a)
+            | TExprKind::Decay(a)
+            | TExprKind::Discard(a)
+            | TExprKind::Field(a, _)
+            | TExprKind::Unary(_, a)
+            | TExprKind::Convert(_, a) => self.expression(alloc, a),
+            TExprKind::Arith(_, a, b)
+            | TExprKind::Compare(_, a, b)
+            | TExprKind::PointerAdd {
+                left: a,
+                right: b,
+                ..
+            }
+            | TExprKind::PointerDiff(a, b)
+            | TExprKind::Assign(a, b)
+            | TExprKind::Update {
+                place: a,
+                value: b,
+                ..
+            } => {
                 let first = self.expression(alloc, a)?;
                 self.after(alloc, b, first)
             }
-            TExprKind::Compare(_, a, b) => {
-                let first = self.expression(alloc, a)?;
-                self.after(alloc, b, first)
-            }
-            TExprKind::PointerAdd { left, right, .. } => {
-                let first = self.expression(alloc, left)?;
-                self.after(alloc, right, first)
-            }
-            TExprKind::PointerDiff(a, b) => {
-                let first = self.expression(alloc, a)?;
-                self.after(alloc, b, first)
-            }
-            TExprKind::And(a, b) => {
+            TExprKind::And(a, b) | TExprKind::Or(a, b) => {
                 let first = self.expression(alloc, a)?;
                 self.perhaps_after(alloc, b, first)
-            }
-            TExprKind::Or(a, b) => {
-                let first = self.expression(alloc, a)?;
-                self.perhaps_after(alloc, b, first)
-            }
-            TExprKind::Assign(a, b) => {
-                let first = self.expression(alloc, a)?;
-                self.after(alloc, b, first)
-            }
-            TExprKind::Update { place, value, .. } => {
-                let first = self.expression(alloc, place)?;
-                self.after(alloc, value, first)
             }
             TExprKind::Cond(test, yes, no) => {
                 let first = self.expression(alloc, test)?;

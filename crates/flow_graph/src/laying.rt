@@ -24,6 +24,15 @@ fn add_silent(into: &mut Vec<Edge>, from: u32, to: u32) -> Result<(), OutOfMemor
     add(into, from, Label::Silent, to)
 }
 
+// Lays an edge alone, which takes no fresh node: the next one is n as before.
+fn lay_edge(into: &mut Vec<Edge>, a: u32, label: Label, to: u32, n: u32) -> Result<u32, OutOfMemory>
+    ensures laid { OnOk result (edges_in into.new.items ≡ edges_in into.old.items ++ edge_of (record { from = a; label = label; to = to }) ∷ []) }
+    ensures next { IfOk result (λ next. next ≡ n) }
+{
+    add(into, a, label, to)?;
+    Ok(n)
+}
+
 // The node past those of so many parts, which stand from n on.
 fn after_each(n: u32, parts: &[Shape]) -> u32
     requires { n + count (parts_of parts.now) < 2 ^ 32 }
@@ -47,19 +56,10 @@ pub fn lay(
     ensures next { IfOk result (λ next. next ≡ n + width (shape_of shape.now)) }
 {
     match shape {
-        Shape::Skip => {
-            add_silent(into, a, p.to)?;
-            Ok(n)
-        }
-        Shape::Sys(name, pattern) => {
-            add(into, a, Label::System(*name, *pattern), p.to)?;
-            Ok(n)
-        }
+        Shape::Skip => lay_edge(into, a, Label::Silent, p.to, n),
+        Shape::Sys(name, pattern) => lay_edge(into, a, Label::System(*name, *pattern), p.to, n),
         Shape::Exit(pattern) => lay_exit(into, *pattern, a, n),
-        Shape::Call(site) => {
-            add(into, a, Label::Site(*site), p.to)?;
-            Ok(n)
-        }
+        Shape::Call(site) => lay_edge(into, a, Label::Site(*site), p.to, n),
         Shape::Seq(first, rest) => {
             let start = after_each(n, rest);
             let to = end_of(rest.len(), n, p.to);
@@ -101,18 +101,9 @@ pub fn lay(
             lay(into, test, n + 1, next, Places { to: n + 2, ..p })
         }
         Shape::Cases(groups, has_default) => lay_cases(into, groups, *has_default, a, n, p),
-        Shape::Break => {
-            add_silent(into, a, p.brk)?;
-            Ok(n)
-        }
-        Shape::Continue => {
-            add_silent(into, a, p.con)?;
-            Ok(n)
-        }
-        Shape::Return => {
-            add_silent(into, a, p.ret)?;
-            Ok(n)
-        }
+        Shape::Break => lay_edge(into, a, Label::Silent, p.brk, n),
+        Shape::Continue => lay_edge(into, a, Label::Silent, p.con, n),
+        Shape::Return => lay_edge(into, a, Label::Silent, p.ret, n),
     }
 }
 

@@ -24,6 +24,7 @@ mod mention;
 mod model;
 mod model_functions;
 mod naming;
+mod nodes;
 mod places;
 mod programs;
 mod reaching;

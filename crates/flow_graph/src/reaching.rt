@@ -2,33 +2,21 @@ ghost use Rattle.std.specs.Prelude.{◌≡◌, ◌↔◌, ◌+◌, ◌<◌, ◌�
 ghost use Rattle.dm_base.specs.Adding.{Has, Adds};
 ghost use Rattle.flow_graph.specs.Callers.{HasCaller, IsLedTo, IsReaching};
 
+use crate::nodes::Nodes;
 use dm_base::OutOfMemory;
-use indexmap::IndexSet;
 use std::alloc::Global;
 
-// Adds the node where it isn't there.
-fn note(found: &mut IndexSet<usize>, node: usize) -> Result<(), OutOfMemory>
-    ensures { OnOk result (Adds found.old.keys found.new.keys (λ k. k ≡ node)) }
-{
-    found.insert(node)?;
-    Ok(())
-}
-
-fn note_each(found: &mut IndexSet<usize>, nodes: &[usize]) -> Result<(), OutOfMemory>
+fn note_each(found: &mut Nodes, nodes: &[usize]) -> Result<(), OutOfMemory>
     ensures { OnOk result (Adds found.old.keys found.new.keys (λ k. Has (λ n. k ≡ n) nodes.now)) }
 {
     for node in nodes {
-        note(found, *node)?;
+        found.note(*node)?;
     }
     Ok(())
 }
 
 // Adds the callers of the node.
-fn note_callers(
-    found: &mut IndexSet<usize>,
-    callers: &[Vec<usize>],
-    node: usize,
-) -> Result<(), OutOfMemory>
+fn note_callers(found: &mut Nodes, callers: &[Vec<usize>], node: usize) -> Result<(), OutOfMemory>
     ensures { OnOk result (Adds found.old.keys found.new.keys (λ k. HasCaller callers.now (record { by = k; to = node }))) }
 {
     if node >= callers.len() {
@@ -38,7 +26,7 @@ fn note_callers(
 }
 
 // Adds all nodes from which calls lead to those that are there. The callers of each are looked at once.
-fn note_all(found: &mut IndexSet<usize>, callers: &[Vec<usize>]) -> Result<(), OutOfMemory>
+fn note_all(found: &mut Nodes, callers: &[Vec<usize>]) -> Result<(), OutOfMemory>
     ensures { OnOk result ((k : ℕ) → Contains found.new.keys k ↔ IsLedTo callers.now found.old.keys k) }
 {
     let mut i = 0;
@@ -50,13 +38,13 @@ fn note_all(found: &mut IndexSet<usize>, callers: &[Vec<usize>]) -> Result<(), O
 }
 
 // The 24 nodes from `first` on.
-fn system_calls(alloc: Global, first: usize) -> Result<IndexSet<usize>, OutOfMemory>
+fn system_calls(alloc: Global, first: usize) -> Result<Nodes, OutOfMemory>
     requires { first < 2 ^ 32 }
     ensures { IfOk result (λ found. (k : ℕ) → Contains found.keys k ↔ ((first ≤ k) × (k < first + 24))) }
 {
-    let mut found = IndexSet::new(alloc);
+    let mut found = Nodes::new(alloc);
     for node in first..first + 24 {
-        note(&mut found, node)?;
+        found.note(node)?;
     }
     Ok(found)
 }
@@ -66,7 +54,7 @@ pub fn reaching_nodes(
     alloc: Global,
     callers: &[Vec<usize>],
     first: usize,
-) -> Result<IndexSet<usize>, OutOfMemory>
+) -> Result<Nodes, OutOfMemory>
     requires { first < 2 ^ 32 }
     ensures { IfOk result (λ found. (k : ℕ) → Contains found.keys k ↔ IsReaching callers.now first k) }
 {

@@ -22,49 +22,34 @@ fn add_expression<'p>(into: &mut Vec<Mention<'p>>, e: &'p TExpr) -> Result<(), O
     ensures { OnOk result (said into.new.items ≡ said into.old.items ++ mentions (expr_of e.now)) }
 {
     match &e.kind {
-        TExprKind::Const(_) => Ok(()),
+        TExprKind::Const(_) | TExprKind::StringPlace(_) | TExprKind::Variable { .. } => Ok(()),
         TExprKind::Function(f) => add(into, Mention::Named(*f)),
-        TExprKind::StringPlace(_) => Ok(()),
-        TExprKind::Variable { .. } => Ok(()),
-        TExprKind::Deref(a) => add_expression(into, a),
-        TExprKind::Load(a) => add_expression(into, a),
-        TExprKind::AddressOf(a) => add_expression(into, a),
-        TExprKind::Decay(a) => add_expression(into, a),
-        TExprKind::Discard(a) => add_expression(into, a),
-        TExprKind::Field(a, _) => add_expression(into, a),
-        TExprKind::Unary(_, a) => add_expression(into, a),
-        TExprKind::Convert(_, a) => add_expression(into, a),
-        TExprKind::Arith(_, a, b) => {
+        TExprKind::Deref(a)
+        | TExprKind::Load(a)
+        | TExprKind::AddressOf(a)
+        | TExprKind::Decay(a)
+        | TExprKind::Discard(a)
+        | TExprKind::Field(a, _)
+        | TExprKind::Unary(_, a)
+        | TExprKind::Convert(_, a) => add_expression(into, a),
+        TExprKind::Arith(_, a, b)
+        | TExprKind::Compare(_, a, b)
+        | TExprKind::PointerAdd {
+            left: a,
+            right: b,
+            ..
+        }
+        | TExprKind::PointerDiff(a, b)
+        | TExprKind::And(a, b)
+        | TExprKind::Or(a, b)
+        | TExprKind::Assign(a, b)
+        | TExprKind::Update {
+            place: a,
+            value: b,
+            ..
+        } => {
             add_expression(into, a)?;
             add_expression(into, b)
-        }
-        TExprKind::Compare(_, a, b) => {
-            add_expression(into, a)?;
-            add_expression(into, b)
-        }
-        TExprKind::PointerAdd { left, right, .. } => {
-            add_expression(into, left)?;
-            add_expression(into, right)
-        }
-        TExprKind::PointerDiff(a, b) => {
-            add_expression(into, a)?;
-            add_expression(into, b)
-        }
-        TExprKind::And(a, b) => {
-            add_expression(into, a)?;
-            add_expression(into, b)
-        }
-        TExprKind::Or(a, b) => {
-            add_expression(into, a)?;
-            add_expression(into, b)
-        }
-        TExprKind::Assign(a, b) => {
-            add_expression(into, a)?;
-            add_expression(into, b)
-        }
-        TExprKind::Update { place, value, .. } => {
-            add_expression(into, place)?;
-            add_expression(into, value)
         }
         TExprKind::Cond(test, yes, no) => {
             add_expression(into, test)?;

@@ -11,8 +11,8 @@ ghost use Rattle.flow_graph.specs.Types.{types_at, items_of, first_place, IsThro
 use crate::mention::Mention;
 use c_tree::{CType, Program, is_same};
 use dm_base::OutOfMemory;
-use indexmap::IndexSet;
 use std::alloc::Global;
+use std::collections::HashSet;
 
 // The first place of the type among the types, or their number where it isn't there.
 pub fn place_of(types: &[&CType], t: &CType) -> usize
@@ -70,7 +70,7 @@ fn type_of<'p>(program: &'p Program, calls: &'p [CType], f: u32) -> &'p CType
 fn is_candidate(
     program: &Program,
     calls: &[CType],
-    taken: &IndexSet<u32>,
+    taken: &HashSet<u32>,
     target: &CType,
     f: u32,
 ) -> bool
@@ -90,7 +90,7 @@ fn candidates_at(
     alloc: Global,
     program: &Program,
     calls: &[CType],
-    taken: &IndexSet<u32>,
+    taken: &HashSet<u32>,
     target: &CType,
 ) -> Result<Vec<u32>, OutOfMemory>
     requires calls { ctypes_of calls.now ≡ sys_types }
@@ -112,7 +112,7 @@ pub fn candidates_of(
     alloc: Global,
     program: &Program,
     calls: &[CType],
-    taken: &IndexSet<u32>,
+    taken: &HashSet<u32>,
     t: &CType,
 ) -> Result<Vec<u32>, OutOfMemory>
     requires calls { ctypes_of calls.now ≡ sys_types }
@@ -134,7 +134,7 @@ pub fn lists_of(
     alloc: Global,
     program: &Program,
     calls: &[CType],
-    taken: &IndexSet<u32>,
+    taken: &HashSet<u32>,
     types: &[&CType],
 ) -> Result<Vec<Vec<u32>>, OutOfMemory>
     requires calls { ctypes_of calls.now ≡ sys_types }

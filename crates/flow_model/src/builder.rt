@@ -14,7 +14,7 @@ use dm_base::OutOfMemory;
 use std::alloc::Global;
 
 /// Why no model was made.
-#[derive(Clone, Copy, Debug, PartialEq, Eq)]
+#[derive(Clone, Copy)]
 pub enum FinishError {
     /// Memory was refused.
     OutOfMemory,

@@ -38,7 +38,7 @@ impl ModelFunction {
 }
 
 /// An edge along which nothing is read.
-#[derive(Clone, Copy, Debug, PartialEq, Eq, PartialOrd, Ord)]
+#[derive(Clone, Copy, PartialEq, Eq, PartialOrd, Ord)]
 pub struct SilentEdge {
     pub from: u32,
     pub to: u32,
@@ -46,7 +46,7 @@ pub struct SilentEdge {
 
 /// An edge along which a system call is read, where its arguments fit the pattern. Such edges are
 /// ordered by their fields from the first on.
-#[derive(Clone, Copy, Debug, PartialEq, Eq, PartialOrd, Ord)]
+#[derive(Clone, Copy, PartialEq, Eq, PartialOrd, Ord)]
 pub struct SysEdge {
     pub from: u32,
     pub name: SysName,

@@ -1,5 +1,5 @@
 /// A language of a model.
-#[derive(Clone, Copy, Debug, PartialEq, Eq)]
+#[derive(Clone, Copy)]
 pub enum Which {
     /// That of the callgraph model, a finite automaton (Wagner and Dean 2001).
     Callgraph,

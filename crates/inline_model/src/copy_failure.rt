@@ -1,7 +1,7 @@
 use dm_base::OutOfMemory;
 
 /// Why there is no list of copies.
-#[derive(Clone, Copy, Debug, PartialEq, Eq)]
+#[derive(Clone, Copy)]
 pub enum CopiesError {
     /// Memory was refused.
     OutOfMemory,

@@ -1,5 +1,5 @@
 /// Why a model is not inlined.
-#[derive(Clone, Copy, Debug, PartialEq, Eq)]
+#[derive(Clone, Copy)]
 pub enum InlineError {
     /// Memory was refused.
     OutOfMemory,

@@ -17,7 +17,7 @@ use std::alloc::Global;
 
 /// That a function goes on by a call: the place of its edge among the model's call edges, and a candidate. Entries are
 /// ordered by their fields from the first on.
-#[derive(Clone, Copy, Debug, PartialEq, Eq, PartialOrd, Ord)]
+#[derive(Clone, Copy, PartialEq, Eq, PartialOrd, Ord)]
 pub struct Entry {
     pub function: u32,
     pub place: usize,

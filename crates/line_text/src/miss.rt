@@ -1,7 +1,7 @@
 use dm_base::OutOfMemory;
 
 /// Why nothing was read.
-#[derive(Clone, Copy, Debug, PartialEq, Eq)]
+#[derive(Clone, Copy)]
 pub enum Miss {
     /// Memory was refused.
     OutOfMemory,

@@ -1,7 +1,7 @@
 use dm_base::OutOfMemory;
 
 /// Why a text is no model file.
-#[derive(Clone, Copy, Debug, PartialEq, Eq)]
+#[derive(Clone, Copy, PartialEq, Eq)]
 pub enum ModelError {
     /// Memory was refused.
     OutOfMemory,
@@ -20,7 +20,7 @@ pub enum ModelError {
 }
 
 /// Why no text of a model was made.
-#[derive(Clone, Copy, Debug, PartialEq, Eq)]
+#[derive(Clone, Copy)]
 pub enum WriteModelError {
     /// Memory was refused.
     OutOfMemory,

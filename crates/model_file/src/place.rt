@@ -5,7 +5,7 @@ ghost use Rattle.model_file.specs.Progress.{IsPlace, IsNext};
 use line_text::first_line;
 
 /// How far a text was read: where the next line begins, and how many lines stand before it.
-#[derive(Clone, Copy, Debug, PartialEq, Eq)]
+#[derive(Clone, Copy, PartialEq, Eq)]
 pub struct Place {
     pub byte: usize,
     pub line: u32,

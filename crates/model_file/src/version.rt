@@ -1,5 +1,5 @@
 /// The version of a model file. In version 2 a system-call edge has a pattern of arguments.
-#[derive(Clone, Copy, Debug, PartialEq, Eq)]
+#[derive(Clone, Copy)]
 pub enum ModelVersion {
     /// `dyckmon-model 1`
     One,

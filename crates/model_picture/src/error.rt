@@ -1,7 +1,7 @@
 use dm_base::OutOfMemory;
 
 /// Why no picture of a model was made.
-#[derive(Clone, Copy, Debug, PartialEq, Eq)]
+#[derive(Clone, Copy)]
 pub enum PictureError {
     /// Memory was refused.
     OutOfMemory,

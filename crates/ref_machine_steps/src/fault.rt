@@ -4,7 +4,7 @@ ghost use Rattle.ref_machine_steps.specs.Faults.{number_of};
 use dm_base::Kind;
 
 /// Why a step gives nothing.
-#[derive(Clone, Copy, Debug, PartialEq, Eq)]
+#[derive(Clone, Copy)]
 pub enum Fault {
     /// The behaviour is undefined, of this kind.
     Undefined(Kind),

@@ -3,7 +3,7 @@ use dm_base::OutOfMemory;
 use std::alloc::{AllocError, AllocFailed};
 
 /// Why a step that takes memory gives nothing.
-#[derive(Clone, Copy, Debug, PartialEq, Eq)]
+#[derive(Clone, Copy)]
 pub enum StepError {
     /// Memory was refused.
     OutOfMemory,

@@ -17,7 +17,7 @@ const BOUND: u32 = 1_000;
 const SWEPT_AFTER: u64 = 1_024;
 
 /// How precise a model is along a trace.
-#[derive(Clone, Copy, Debug, PartialEq, Eq)]
+#[derive(Clone, Copy)]
 pub struct Precision {
     /// How many first parts of the trace are kept, the empty one included.
     pub prefixes: u64,

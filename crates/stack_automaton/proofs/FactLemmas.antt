@@ -1,8 +1,7 @@
 -- Sets of facts and of functions, in the order of their making.
-use Rattle.std.proofs.Common.{◌≡◌, ◌⊎◌, ◌↔◌, ℕ, suc, Bool, true, false, cond, ◌&&◌, ◌||◌, List, [], ◌∷◌, ◌++◌, Contains, refl, sym, ◌∙◌, ap, subst, inl, inr, arith, nat_eq, append-nil, ◌≤◌, length, Some, None}
-use Rattle.std.specs.List.{list_any, position, position_or_len}
+use Rattle.std.proofs.Common.{◌≡◌, ◌⊎◌, ◌↔◌, ℕ, suc, Bool, true, false, cond, ◌&&◌, ◌||◌, List, [], ◌∷◌, Contains, refl, sym, ◌∙◌, ap, subst, inl, inr, arith, nat_eq, length}
+use Rattle.std.specs.List.{list_any}
 use Rattle.std.specs.Map.{keys_of}
-use Rattle.std.specs.Prelude.{not, nat_lt}
 use Rattle.std.specs.Cmp.{IsEquivalence}
 use Rattle.std.specs.List.Retain.{IsFiltered, DiffersFromLast}
 use Rattle.std.specs.List.Sorted.{IsPermutation}
@@ -10,11 +9,8 @@ use Rattle.std.proofs.lemmas.Cmp.{nat_eq_equiv}
 use Rattle.std.proofs.lemmas.List.Filters.{dedup_is}
 use Rattle.std.proofs.lemmas.List.Kept.{Contains-dedup, Contains-from_dedup}
 use Rattle.std.proofs.lemmas.List.Sorted.{Contains-permutation, IsPermutation-sym}
-use Rattle.std.proofs.lemmas.List.Sums.{prefix_len-le-length}
-use Rattle.std.proofs.lemmas.Bool.{eq-eqb, eqb-true, ltb-false}
-use Rattle.std.proofs.lemmas.List.Elements.{Contains-append_left, Contains-push, Contains-push_cases}
+use Rattle.std.proofs.lemmas.Bool.{eq-eqb, eqb-true}
 use Rattle.slab.proofs.SlabLemmas.{Contains-cons, Contains-cons_cases}
-use Rattle.indexmap.specs.IndexSet.{insert_key}
 use Rattle.stack_automaton.specs.declared.place.Place.{Place}
 use Rattle.stack_automaton.specs.declared.place.Place.TheVariants.{Held, Entered}
 use Rattle.stack_automaton.specs.declared.place.Fact.{Fact}
@@ -23,7 +19,7 @@ use Rattle.stack_automaton.specs.declared.place.Edge.{Edge}
 use Rattle.stack_automaton.specs.contracts.place.EdgePartialEq.TheImpl.{eq-value as edge_eq}
 use Rattle.stack_automaton.specs.contracts.place.PlacePartialEq.TheImpl.{eq-value as place_eq}
 use Rattle.stack_automaton.specs.contracts.place.FactPartialEq.TheImpl.{eq-value as fact_eq}
-use Rattle.dm_base.specs.Adding.{Adds}
+use Rattle.dm_base.specs.Adding.{Gains}
 use Rattle.flow_model.proofs.BothLemmas.{both_hold}
 pub use Rattle.flow_model.proofs.BothLemmas.{both_true}
 
@@ -69,44 +65,32 @@ module _ {K : Type 0} (eq : K → K → Bool) (exact : (x y : K) → eq x y ≡ 
     ],
   )
 
-  add_by : (b : Bool) (old : List K) (x : K) → list_any (eq x) old ≡ b → Adds old (cond b old (old ++ x ∷ [])) (λ y. y ≡ x)
-  add_by true old x is = record {
-    grows = ([], sym (append-nil old));
-    is = λ y. (
-      λ has. inl has,
-      λ s. elim s as (λ _. Contains old y) [ inl has ↦ has | inr e ↦ subst (Contains old) (sym e) ((any_contains old x).0 is) ],
-    );
-  }
-  add_by false old x is = record {
-    grows = (x ∷ [], refl);
-    is = λ y. (
-      λ has. elim (Contains-push_cases old x y has) as (λ _. Contains old y ⊎ (y ≡ x)) [ inl was ↦ inl was | inr e ↦ inr (sym e) ],
-      λ s. elim s as (λ _. Contains (old ++ x ∷ []) y) [ inl was ↦ Contains-append_left old (x ∷ []) y was | inr e ↦ subst (Contains (old ++ x ∷ [])) (sym e) (Contains-push old x) ],
-    );
-  }
+  still_there : (b c : Bool) → c ≡ true → cond b true c ≡ true
+  still_there true c is = refl
+  still_there false c is = is
 
-  -- a key that is inserted
-  pub key_added : (old new : List K) (x : K) → new ≡ insert_key eq old x → Adds old new (λ y. y ≡ x)
-  key_added old new x is = subst (λ ks. Adds old ks (λ y. y ≡ x)) (sym is) (add_by (list_any (eq x) old) old x refl)
+  old_or_new : (old : List K) (x y : K) (b : Bool) → eq x y ≡ b → cond b true (list_any (eq y) old) ≡ true → Contains old y ⊎ (y ≡ x)
+  old_or_new old x y true is there = inr (sym (exact x y is))
+  old_or_new old x y false is there = inl ((any_contains old y).0 there)
+
+  -- a key that is inserted into a set
+  pub key_gained : (old new : List K) (x : K) → ((y : K) → list_any (eq y) new ≡ cond (eq x y) true (list_any (eq y) old)) → Gains (Contains old) (Contains new) (λ y. y ≡ x)
+  key_gained old new x is y = (
+    λ has. old_or_new old x y (eq x y) refl (sym (is y) ∙ (any_contains new y).1 has),
+    λ s. elim s as (λ _. Contains new y) [
+      | inl was ↦ (any_contains new y).0 (is y ∙ still_there (eq x y) (list_any (eq y) old) ((any_contains old y).1 was))
+      | inr e ↦ (any_contains new y).0 (is y ∙ ap (λ b. cond b true (list_any (eq y) old)) (ap (eq x) e ∙ same x))
+    ],
+  )
 
 -- the same at numbers
 pub number_contains : (xs : List ℕ) (x : ℕ) → (list_any (nat_eq x) xs ≡ true) ↔ Contains xs x
 number_contains = any_contains nat_eq (λ x y. eqb-true x y) (λ x. eq-eqb x x refl)
 
-pub number_added : (old new : List ℕ) (x : ℕ) → new ≡ insert_key nat_eq old x → Adds old new (λ y. y ≡ x)
-number_added = key_added nat_eq (λ x y. eqb-true x y) (λ x. eq-eqb x x refl)
+pub number_gained : (old new : List ℕ) (x : ℕ) → ((y : ℕ) → list_any (nat_eq y) new ≡ cond (nat_eq x y) true (list_any (nat_eq y) old)) → Gains (Contains old) (Contains new) (λ y. y ≡ x)
+number_gained = key_gained nat_eq (λ x y. eqb-true x y) (λ x. eq-eqb x x refl)
 
--- where a search finds nothing
-not_found : (b : Bool) (n i : ℕ) → nat_lt i n ≡ b → None ≡ cond b (Some i) None → n ≤ i
-not_found true n i is none = absurd cc
-not_found false n i is none = ltb-false i n is
-
-pub not_among : {X : Type 0} (p : X → Bool) (xs : List X) → None ≡ position p xs → length xs ≡ position_or_len p xs
-not_among p xs none =
-    let past : length xs ≤ position_or_len p xs = not_found (nat_lt (position_or_len p xs) (length xs)) (length xs) (position_or_len p xs) refl none in
-    let most : position_or_len p xs ≤ length xs = prefix_len-le-length (λ x. not (p x)) xs in
-    omega (arith, past, most)
-
+-- as many functions as entries
 pub length_keys : {K X : Type 0} (es : List (K × X)) → length es ≡ length (keys_of es)
 length_keys [] = refl
 length_keys (e ∷ es) = ap suc (length_keys es)

@@ -9,16 +9,15 @@ use Rattle.flow_model.specs.declared.records.ModelFunction.{ModelFunction}
 use Rattle.flow_model.specs.Call.{Call}
 use Rattle.flow_model.specs.Graph.{Graph}
 use Rattle.stack_automaton.specs.Held.{States}
-use Rattle.dm_base.specs.Adding.{Has, Adds}
-use Rattle.stack_automaton.specs.Links.{HasLink, AddsLinks}
+use Rattle.dm_base.specs.Adding.{Has, Adds, Gains}
+use Rattle.stack_automaton.specs.Links.{Links, HasLink, AddsLinks}
 use Rattle.stack_automaton.specs.Following.{IsCallAt, IsAlong, IsEntry, IsCalled, link_of, IsCallTo, IsLinkOf, EndsAt, IsReturn, IsBack, IsEnd, IsAfterEnd, IsStep}
 use Rattle.stack_automaton.specs.declared.place.Place.{Place}
 use Rattle.stack_automaton.specs.declared.place.Place.TheVariants.{Held, Entered}
 use Rattle.stack_automaton.specs.declared.place.Edge.{Edge}
 use Rattle.stack_automaton.specs.declared.place.Fact.{Fact}
 use Rattle.stack_automaton.specs.declared.place.Link.{Link}
-use Rattle.stack_automaton.specs.declared.links.Links.{Links}
-use Rattle.dm_base.proofs.AddingLemmas.{adds_same, adds_both, adds_nothing, has_more}
+use Rattle.dm_base.proofs.AddingLemmas.{gains_same, adds_same, adds_both, adds_nothing, has_more}
 use Rattle.stack_automaton.proofs.LinksLemmas.{links_same}
 pub use Rattle.flow_model.proofs.NoSite.{no_site}
 
@@ -125,11 +124,11 @@ end_followed old new functions links x f list ends is adds = adds_same old new _
   λ (h, other, l, has, same). (l, (is l).1 (subst (λ i. HasLink links i l) (one_end functions x h f other ends) has), same),
 )) adds
 
-pub end_noted : (old new : List ℕ) (functions : List ModelFunction) (x : Fact) (f : ℕ) → IsEnd functions f x → Adds old new (λ h. h ≡ f) → Adds old new (λ h. IsEnd functions h x)
-end_noted old new functions x f ends adds = adds_same old new _ _ (λ h. (
+pub end_noted : (old new : List ℕ) (functions : List ModelFunction) (x : Fact) (f : ℕ) → IsEnd functions f x → Gains (Contains old) (Contains new) (λ h. h ≡ f) → Gains (Contains old) (Contains new) (λ h. IsEnd functions h x)
+end_noted old new functions x f ends gains = gains_same (Contains old) (Contains new) _ _ (λ h. (
   λ same. subst (λ i. IsEnd functions i x) (sym same) ends,
   λ other. one_end functions x h f other ends,
-)) adds
+)) gains
 
 -- a slot of the functions
 pub function_at : (functions : List ModelFunction) (f : ℕ) (one : ModelFunction) → true ≡ ltb f (length functions) → one ≡ get_or functions f one → slice_get functions f ≡ Some one

@@ -13,11 +13,10 @@ use Rattle.stack_automaton.specs.declared.place.Place.TheVariants.{Held, Entered
 use Rattle.stack_automaton.specs.declared.place.Edge.{Edge}
 use Rattle.stack_automaton.specs.declared.place.Fact.{Fact}
 use Rattle.stack_automaton.specs.declared.place.Link.{Link}
-use Rattle.stack_automaton.specs.declared.links.Links.{Links}
 use Rattle.stack_automaton.specs.declared.saturate.Closure.{Closure}
 use Rattle.dm_base.specs.Adding.{Has}
 use Rattle.stack_automaton.specs.Held.{States, IsThere, HasEdge}
-use Rattle.stack_automaton.specs.Links.{HasLink, functions_of}
+use Rattle.stack_automaton.specs.Links.{Links, HasLink, functions_of}
 use Rattle.stack_automaton.specs.Event.{IsFact, IsLink, key_of}
 use Rattle.stack_automaton.specs.Following.{IsFirst, link_of}
 use Rattle.stack_automaton.specs.Storing.{IsClosed, Grows, IsPut, key_at, IsLinkEdge, AreLinkEdges, AreTops, Planned, IsFilled, Rewrites, Filled, AreTargets, IsEvent, AreStored, IsStored}
@@ -200,7 +199,7 @@ found_key [] f P has = absurd has
 found_key (e ∷ es) f P has = found_one f e.0 e.1 es P (nat_eq f e.0) refl (found_key es f P) has
 
 pub function_place : (links : Links) (f : ℕ) (l : Link) → HasLink links f l → slice_get (functions_of links) (position_or_len (nat_eq f) (functions_of links)) ≡ Some f
-function_place links f l has = sym (find_at (nat_eq f) (functions_of links)) ∙ found_key links.lists.entries f (λ v. Contains v.items l) has
+function_place links f l has = sym (find_at (nat_eq f) (functions_of links)) ∙ found_key links.lists f (λ v. Contains v l) has
 
 -- an edge leads to a key that is there
 pub edge_there : (s : States) → IsClosed s → (k l q : ℕ) → IsThere s k → HasEdge s k l q → IsThere s q

@@ -10,6 +10,7 @@ pub mod NotingLemmas
 pub mod PathLemmas
 pub mod ReadingLemmas
 pub mod ResolvingLemmas
+pub mod ResultLemmas
 pub mod SaturationLemmas
 pub mod SeenLemmas
 pub mod StandingLemmas

@@ -6,7 +6,7 @@ use Rattle.std.proofs.lemmas.Bool.{eq-eqb, eqb-true, false≢true}
 use Rattle.std.proofs.lemmas.List.{get_or-set_same, get_or-set_other}
 use Rattle.std.proofs.lemmas.List.Elements.{Contains-append_left, Contains-push, Contains-push_cases}
 use Rattle.std.proofs.Math.ListN.{set}
-use Rattle.dm_base.specs.Adding.{Has, Adds}
+use Rattle.dm_base.specs.Adding.{Has, Adds, Gains}
 use Rattle.stack_automaton.specs.declared.place.Fact.{Fact}
 use Rattle.stack_automaton.specs.Marks.{AreMarked}
 
@@ -60,20 +60,27 @@ abbrev pub AreSame : List Fact → List Fact → Type 0
 AreSame index facts = (x : Fact) → Contains index x ↔ Contains facts x
 
 -- with one fact more
-pub same_more : (facts index new : List Fact) (fact : Fact) → AreSame index facts → Adds index new (λ x. x ≡ fact) → AreSame new (facts ++ fact ∷ [])
-same_more facts index new fact same adds x = (
-  λ has. elim ((adds.is x).0 has) as (λ _. Contains (facts ++ fact ∷ []) x) [
+pub same_more : (facts index new : List Fact) (fact : Fact) → AreSame index facts → Gains (Contains index) (Contains new) (λ x. x ≡ fact) → AreSame new (facts ++ fact ∷ [])
+same_more facts index new fact same gains x = (
+  λ has. elim ((gains x).0 has) as (λ _. Contains (facts ++ fact ∷ []) x) [
     | inl was ↦ Contains-append_left facts (fact ∷ []) x ((same x).0 was)
     | inr e ↦ subst (Contains (facts ++ fact ∷ [])) (sym e) (Contains-push facts fact)
   ],
   λ has. elim (Contains-push_cases facts fact x has) as (λ _. Contains new x) [
-    | inl was ↦ (adds.is x).1 (inl ((same x).1 was))
-    | inr e ↦ (adds.is x).1 (inr (sym e))
+    | inl was ↦ (gains x).1 (inl ((same x).1 was))
+    | inr e ↦ (gains x).1 (inr (sym e))
   ],
 )
 
 pub has_equal : {X : Type 0} (xs : List X) (y : X) → Has (λ x. y ≡ x) xs ↔ Contains xs y
 has_equal xs y = (λ h. subst (Contains xs) (sym h.2) h.1, λ has. (y, has, refl))
+
+-- what is gained one after another is all
+pub all_gained : {X : Type 0} (xs index : List X) → Gains (Contains []) (Contains index) (λ y. Has (λ x. y ≡ x) xs) → (y : X) → Contains index y ↔ Contains xs y
+all_gained xs index gains y = (
+  λ has. elim ((gains y).0 has) as (λ _. Contains xs y) [ inl none ↦ absurd (omega (arith, none.1)) | inr h ↦ (has_equal xs y).0 h ],
+  λ has. (gains y).1 (inr ((has_equal xs y).1 has)),
+)
 
 -- what was added last is taken back
 pub taken_back : {X : Type 0} (xs ys new : List X) (x : X) (n : ℕ) → ys ≡ xs ++ x ∷ [] → n ≡ length ys → new ≡ take (n - 1) ys → new ≡ xs

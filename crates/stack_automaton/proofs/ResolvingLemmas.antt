@@ -8,13 +8,12 @@ use Rattle.stack_automaton.specs.declared.place.Place.{Place}
 use Rattle.stack_automaton.specs.declared.place.Place.TheVariants.{Held, Entered}
 use Rattle.stack_automaton.specs.declared.place.Edge.{Edge}
 use Rattle.stack_automaton.specs.declared.place.Link.{Link}
-use Rattle.stack_automaton.specs.declared.links.Links.{Links}
 use Rattle.stack_automaton.specs.declared.saturate.Closure.{Closure}
 use Rattle.stack_automaton.specs.declared.place.Fact.{Fact}
 use Rattle.flow_model.specs.Graph.{Graph}
 use Rattle.dm_base.specs.Adding.{Adds}
 use Rattle.stack_automaton.specs.Held.{States, IsThere}
-use Rattle.stack_automaton.specs.Links.{HasLink, functions_of}
+use Rattle.stack_automaton.specs.Links.{Links, HasLink, functions_of}
 use Rattle.stack_automaton.specs.Resolving.{IsKnown, AreResolved}
 use Rattle.stack_automaton.specs.Storing.{IsClosed, Grows, key_at, AreLinkEdges, IsFilled, IsEvent, Planned, Rewrites, Filled, AreTargets, AreStored}
 use Rattle.stack_automaton.proofs.GrowingLemmas.{both_edge, grows_trans, grows_rewritten, targets, entered_stored}

@@ -10,10 +10,9 @@ use Rattle.stack_automaton.specs.declared.place.Place.{Place}
 use Rattle.stack_automaton.specs.declared.place.Place.TheVariants.{Held, Entered}
 use Rattle.stack_automaton.specs.declared.place.Fact.{Fact}
 use Rattle.stack_automaton.specs.declared.place.Link.{Link}
-use Rattle.stack_automaton.specs.declared.links.Links.{Links}
-use Rattle.dm_base.specs.Adding.{Has, Adds}
+use Rattle.dm_base.specs.Adding.{Has, Adds, Gains}
 use Rattle.stack_automaton.specs.Held.{States, HasEdge}
-use Rattle.stack_automaton.specs.Links.{HasLink, AddsLinks}
+use Rattle.stack_automaton.specs.Links.{Links, HasLink, AddsLinks}
 use Rattle.stack_automaton.specs.Event.{IsFact}
 use Rattle.stack_automaton.specs.Event.IsFact.{first, silent, enter, back, out}
 use Rattle.stack_automaton.specs.Following.{IsAlong, link_of, IsLinkOf, IsInto, IsBack, IsEnd, IsOut, IsOutOfBoth, IsStep, IsAfter, AreFollowed, IsFirst, IsOfEvent, AreHeld, AreLinks, AreFollowedTo}
@@ -181,17 +180,17 @@ links_more g mid old new i x lt is before adds f l =
     )
 
 ends_more : (functions : List ModelFunction) (mid : List Fact) (old new : List ℕ) (i : ℕ) (x : Fact) → i < length mid → x ≡ get_or mid i x → ((f : ℕ) → Contains old f ↔ Has (IsEnd functions f) (take i mid))
-    → Adds old new (λ f. IsEnd functions f x) → (f : ℕ) → Contains new f ↔ Has (IsEnd functions f) (take (i + 1) mid)
-ends_more functions mid old new i x lt is before adds f =
+    → Gains (Contains old) (Contains new) (λ f. IsEnd functions f x) → (f : ℕ) → Contains new f ↔ Has (IsEnd functions f) (take (i + 1) mid)
+ends_more functions mid old new i x lt is before gains f =
     let P : Fact → Type 0 = IsEnd functions f in
     let more = has_more P mid i x lt is in (
-      λ has. more.1 (elim ((adds.is f).0 has) as (λ _. Has P (take i mid) ⊎ P x) [ inl was ↦ inl ((before f).0 was) | inr here ↦ inr here ]),
-      λ has. (adds.is f).1 (elim (more.0 has) as (λ _. Contains old f ⊎ P x) [ inl was ↦ inl ((before f).1 was) | inr here ↦ inr here ]),
+      λ has. more.1 (elim ((gains f).0 has) as (λ _. Has P (take i mid) ⊎ P x) [ inl was ↦ inl ((before f).0 was) | inr here ↦ inr here ]),
+      λ has. (gains f).1 (elim (more.0 has) as (λ _. Contains old f ⊎ P x) [ inl was ↦ inl ((before f).1 was) | inr here ↦ inr here ]),
     )
 
 -- one fact more is followed
 pub followed_more : (g : Graph) (s : States) (begin mid new : List Fact) (links links' : Links) (ended ended' : List ℕ) (i : ℕ) (x : Fact) → i < length mid → x ≡ get_or mid i x
-    → AreFollowedTo g s begin mid links ended i → Adds ended ended' (λ f. IsEnd g.functions f x) → AddsLinks links links' (λ f l. Has (λ c. (c.from ≡ x.node) × IsLinkOf x.place f l c) g.calls)
+    → AreFollowedTo g s begin mid links ended i → Gains (Contains ended) (Contains ended') (λ f. IsEnd g.functions f x) → AddsLinks links links' (λ f l. Has (λ c. (c.from ≡ x.node) × IsLinkOf x.place f l c) g.calls)
     → Adds mid new (IsStep g s links' ended' x) → AreFollowedTo g s begin new links' ended' (i + 1)
 followed_more g s begin mid new links links' ended ended' i x lt is before more_ends more_links steps =
     let calls' = links_more g mid links links' i x lt is before.calls more_links in

@@ -7,13 +7,12 @@ use Rattle.flow_model.specs.Graph.{Graph}
 use Rattle.dm_base.specs.Adding.{Has}
 use Rattle.stack_automaton.specs.Held.{States, HasEdge}
 use Rattle.stack_automaton.specs.Event.{IsFact}
-use Rattle.stack_automaton.specs.Links.{HasLink}
+use Rattle.stack_automaton.specs.Links.{Links, HasLink}
 use Rattle.stack_automaton.specs.declared.place.Place.{Place}
 use Rattle.stack_automaton.specs.declared.place.Place.TheVariants.{Held, Entered}
 use Rattle.stack_automaton.specs.declared.place.Edge.{Edge}
 use Rattle.stack_automaton.specs.declared.place.Fact.{Fact}
 use Rattle.stack_automaton.specs.declared.place.Link.{Link}
-use Rattle.stack_automaton.specs.declared.links.Links.{Links}
 use Rattle.stack_automaton.specs.declared.saturate.Closure.{Closure}
 
 -- the call edge is that of the site, and no other is

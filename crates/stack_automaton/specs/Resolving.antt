@@ -2,12 +2,11 @@
 use Rattle.std.specs.Prelude.{◌≡◌, ◌⊎◌, ◌<◌, ℕ, List, Contains, Some, None, length, slice_index_or, slice_get, nat_eq, ⊤}
 use Rattle.std.specs.List.{position_or_len}
 use Rattle.stack_automaton.specs.Held.{States, IsThere}
-use Rattle.stack_automaton.specs.Links.{HasLink, functions_of}
+use Rattle.stack_automaton.specs.Links.{Links, HasLink, functions_of}
 use Rattle.stack_automaton.specs.Storing.{IsFilled}
 use Rattle.stack_automaton.specs.declared.place.Place.{Place}
 use Rattle.stack_automaton.specs.declared.place.Place.TheVariants.{Held, Entered}
 use Rattle.stack_automaton.specs.declared.place.Link.{Link}
-use Rattle.stack_automaton.specs.declared.links.Links.{Links}
 
 -- the key of the place is known
 abbrev pub IsKnown : List ℕ → List ℕ → Place → Type 0

@@ -4,14 +4,13 @@ use Rattle.std.specs.List.{position_or_len}
 use Rattle.flow_model.specs.Graph.{Graph}
 use Rattle.stack_automaton.specs.Held.{States, IsThere, HasEdge}
 use Rattle.stack_automaton.specs.Event.{Stores}
-use Rattle.stack_automaton.specs.Links.{HasLink, functions_of}
+use Rattle.stack_automaton.specs.Links.{Links, HasLink, functions_of}
 use Rattle.stack_automaton.specs.Following.{IsFirst, IsClosure}
 use Rattle.stack_automaton.specs.declared.place.Place.{Place}
 use Rattle.stack_automaton.specs.declared.place.Place.TheVariants.{Held, Entered}
 use Rattle.stack_automaton.specs.declared.place.Edge.{Edge}
 use Rattle.stack_automaton.specs.declared.place.Fact.{Fact}
 use Rattle.stack_automaton.specs.declared.place.Link.{Link}
-use Rattle.stack_automaton.specs.declared.links.Links.{Links}
 use Rattle.stack_automaton.specs.declared.saturate.Closure.{Closure}
 
 -- each edge leads to a key that is there

@@ -18,9 +18,9 @@ use crate::shared::Shared;
 use crate::store::store;
 use dm_base::{Event, OutOfMemory, fits};
 use flow_model::{Model, SysEdge};
-use indexmap::IndexSet;
 use slab::Slab;
 use std::alloc::Global;
+use std::collections::HashSet;
 use std::mem;
 
 // The most facts and the most functions of an event whose room is kept.
@@ -93,7 +93,7 @@ fn first_facts(
 pub struct Room {
     pub facts: FactSet,
     pub links: Links,
-    pub ended: IndexSet<u32>,
+    pub ended: HashSet<u32>,
     pub found: Resolved,
     pub edges: Vec<Edge>,
 }
@@ -117,7 +117,7 @@ impl Room {
         Room {
             facts: FactSet::new(alloc),
             links: Links::new(alloc),
-            ended: IndexSet::new(alloc),
+            ended: HashSet::new(alloc),
             found: Resolved::new(alloc),
             edges: Vec::new(alloc),
         }

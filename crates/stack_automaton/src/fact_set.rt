@@ -1,11 +1,11 @@
 ghost use Rattle.std.specs.Prelude.{◌≡◌, ◌↔◌, [], ◌∷◌, ◌++◌, Contains, IsTrue, IfOk, OnOk, OnErr, length};
-ghost use Rattle.dm_base.specs.Adding.{Adds};
+ghost use Rattle.dm_base.specs.Adding.{Adds, Gains};
 ghost use Rattle.stack_automaton.specs.declared.place.Fact.{Fact as Fact'};
 
 use crate::place::Fact;
 use dm_base::OutOfMemory;
-use indexmap::IndexSet;
 use std::alloc::Global;
+use std::collections::HashSet;
 
 // So many facts are gone through one after another. Where there are more, an index tells which are there.
 const FEW: usize = 64;
@@ -15,7 +15,7 @@ pub struct FactSet {
     alloc: Global,
     list: Vec<Fact>,
     // The facts of the list, where there are more than few.
-    index: IndexSet<Fact>,
+    index: HashSet<Fact>,
 }
 
 // Written, so that a function that drops one proves no more than a call of it.
@@ -47,15 +47,15 @@ fn is_one_of(facts: &[Fact], fact: Fact) -> bool
 }
 
 // Whether the index has the fact.
-fn is_in(index: &IndexSet<Fact>, fact: Fact) -> bool
+fn is_in(index: &HashSet<Fact>, fact: Fact) -> bool
     ensures { IsTrue result ↔ Contains index.now.keys fact }
 {
     index.contains(&fact)
 }
 
 // Puts the fact into the index.
-fn put(index: &mut IndexSet<Fact>, fact: Fact) -> Result<(), OutOfMemory>
-    ensures added { OnOk result (Adds index.old.keys index.new.keys (λ x. x ≡ fact)) }
+fn put(index: &mut HashSet<Fact>, fact: Fact) -> Result<(), OutOfMemory>
+    ensures added { OnOk result (Gains (Contains index.old.keys) (Contains index.new.keys) (λ x. x ≡ fact)) }
     ensures kept { OnErr result (index.new.keys ≡ index.old.keys) }
 {
     index.insert(fact)?;
@@ -63,10 +63,10 @@ fn put(index: &mut IndexSet<Fact>, fact: Fact) -> Result<(), OutOfMemory>
 }
 
 // The index of these facts alone.
-fn index_of(alloc: Global, facts: &[Fact]) -> Result<IndexSet<Fact>, OutOfMemory>
+fn index_of(alloc: Global, facts: &[Fact]) -> Result<HashSet<Fact>, OutOfMemory>
     ensures { IfOk result (λ index. (x : Fact') → Contains index.keys x ↔ Contains facts.now x) }
 {
-    let mut index = IndexSet::new(alloc);
+    let mut index = HashSet::new(alloc);
     for fact in facts {
         put(&mut index, *fact)?;
     }
@@ -76,7 +76,7 @@ fn index_of(alloc: Global, facts: &[Fact]) -> Result<IndexSet<Fact>, OutOfMemory
 // Adds a fact to the list and to the index of its facts.
 fn add_to_both(
     list: &mut Vec<Fact>,
-    index: &mut IndexSet<Fact>,
+    index: &mut HashSet<Fact>,
     fact: Fact,
 ) -> Result<(), OutOfMemory>
     requires { (x : Fact') → Contains index.old.keys x ↔ Contains list.old.items x }
@@ -102,7 +102,7 @@ impl FactSet {
         FactSet {
             alloc,
             list: Vec::new(alloc),
-            index: IndexSet::new(alloc),
+            index: HashSet::new(alloc),
         }
     }
 
@@ -149,8 +149,7 @@ impl FactSet {
         ensures { OnOk result (self.new.keys ≡ self.old.keys ++ fact ∷ []) }
     {
         self.index = index_of(self.alloc, &self.list)?;
-        add_to_both(&mut self.list, &mut self.index, fact)?;
-        Ok(())
+        add_to_both(&mut self.list, &mut self.index, fact)
     }
 
     // Adds a fact at the end.
@@ -164,8 +163,7 @@ impl FactSet {
         if self.list.len() == FEW {
             return self.begin_index(fact);
         }
-        add_to_both(&mut self.list, &mut self.index, fact)?;
-        Ok(())
+        add_to_both(&mut self.list, &mut self.index, fact)
     }
 
     // Adds the fact where it isn't among them.

@@ -1,6 +1,6 @@
 ghost use Rattle.std.specs.Prelude.{◌≡◌, ◌⊎◌, ◌↔◌, ℕ, Contains, IsTrue, OnOk, IfSome, IfNone};
 ghost use Rattle.slab.specs.Slab.{get};
-ghost use Rattle.dm_base.specs.Adding.{Has, Adds};
+ghost use Rattle.dm_base.specs.Adding.{Has, Adds, Gains};
 ghost use Rattle.stack_automaton.specs.Links.{AddsLinks};
 ghost use Rattle.stack_automaton.specs.Following.{IsAlong, IsEntry, IsCalled, IsCallTo, IsLinkOf, EndsAt, IsReturn, IsBack, IsEnd, IsAfterEnd, IsStep};
 
@@ -10,8 +10,8 @@ use crate::place::{Edge, Fact, Link, Place, State};
 use crate::reading::{call_at, ending_at, silent_from, sites_from};
 use dm_base::OutOfMemory;
 use flow_model::{CallEdge, Model, ModelFunction, SilentEdge};
-use indexmap::IndexSet;
 use slab::Slab;
+use std::collections::HashSet;
 
 // Adds the fact where it isn't there.
 pub fn add(facts: &mut FactSet, fact: Fact) -> Result<(), OutOfMemory>
@@ -62,7 +62,7 @@ fn enter_one(
 }
 
 // Whether the exit of the function is reached.
-fn has_ended(ended: &IndexSet<u32>, function: u32) -> bool
+fn has_ended(ended: &HashSet<u32>, function: u32) -> bool
     ensures { IsTrue result ↔ Contains ended.now.keys function }
 {
     ended.contains(&function)
@@ -71,7 +71,7 @@ fn has_ended(ended: &IndexSet<u32>, function: u32) -> bool
 // Adds what is returned to, where the exit of the function that the call enters is reached.
 fn return_one(
     facts: &mut FactSet,
-    ended: &IndexSet<u32>,
+    ended: &HashSet<u32>,
     function: u32,
     to: u32,
     place: Place,
@@ -88,7 +88,7 @@ fn return_one(
 fn call_one(
     facts: &mut FactSet,
     links: &mut Links,
-    ended: &IndexSet<u32>,
+    ended: &HashSet<u32>,
     functions: &[ModelFunction],
     link: Link,
     function: u32,
@@ -98,14 +98,13 @@ fn call_one(
 {
     links.add(function, link)?;
     enter_one(facts, functions, function)?;
-    return_one(facts, ended, function, link.to, link.place)?;
-    Ok(())
+    return_one(facts, ended, function, link.to, link.place)
 }
 
 fn call_each(
     facts: &mut FactSet,
     links: &mut Links,
-    ended: &IndexSet<u32>,
+    ended: &HashSet<u32>,
     functions: &[ModelFunction],
     link: Link,
     candidates: &[u32],
@@ -123,7 +122,7 @@ fn call_each(
 fn call_site(
     facts: &mut FactSet,
     links: &mut Links,
-    ended: &IndexSet<u32>,
+    ended: &HashSet<u32>,
     model: &Model,
     site: u32,
     place: Place,
@@ -152,7 +151,7 @@ fn call_site(
 fn call_each_site(
     facts: &mut FactSet,
     links: &mut Links,
-    ended: &IndexSet<u32>,
+    ended: &HashSet<u32>,
     model: &Model,
     sites: &[u32],
     place: Place,
@@ -171,7 +170,7 @@ fn call_each_site(
 fn follow_calls(
     facts: &mut FactSet,
     links: &mut Links,
-    ended: &IndexSet<u32>,
+    ended: &HashSet<u32>,
     model: &Model,
     fact: Fact,
 ) -> Result<(), OutOfMemory>
@@ -187,8 +186,7 @@ fn follow_calls(
         model,
         sites_from(model, fact.node),
         fact.place,
-    )?;
-    Ok(())
+    )
 }
 
 // Whether the function ends at the node.
@@ -288,11 +286,11 @@ fn return_to_each(facts: &mut FactSet, links: &[Link]) -> Result<(), OutOfMemory
 
 // Notes the function that ends with this fact.
 fn note_end(
-    ended: &mut IndexSet<u32>,
+    ended: &mut HashSet<u32>,
     functions: &[ModelFunction],
     fact: Fact,
 ) -> Result<(), OutOfMemory>
-    ensures { OnOk result (Adds ended.old.keys ended.new.keys (λ f. IsEnd functions.now f fact)) }
+    ensures { OnOk result (Gains (Contains ended.old.keys) (Contains ended.new.keys) (λ f. IsEnd functions.now f fact)) }
 {
     if let Some(function) = ending(functions, fact) {
         ended.insert(function)?;
@@ -319,12 +317,12 @@ fn follow_end(
 pub fn follow_fact(
     facts: &mut FactSet,
     links: &mut Links,
-    ended: &mut IndexSet<u32>,
+    ended: &mut HashSet<u32>,
     model: &Model,
     states: &Slab<State>,
     fact: Fact,
 ) -> Result<(), OutOfMemory>
-    ensures ended { OnOk result (Adds ended.old.keys ended.new.keys (λ f. IsEnd model.now.functions f fact)) }
+    ensures ended { OnOk result (Gains (Contains ended.old.keys) (Contains ended.new.keys) (λ f. IsEnd model.now.functions f fact)) }
     ensures links { OnOk result (AddsLinks links.old links.new (λ f l. Has (λ c. (c.from ≡ fact.node) × IsLinkOf fact.place f l c) model.now.calls)) }
     ensures facts { OnOk result (Adds facts.old.keys facts.new.keys (IsStep model.now (get states.now) links.new ended.new.keys fact)) }
 {
@@ -333,6 +331,5 @@ pub fn follow_fact(
     follow_calls(facts, links, ended, model, fact)?;
     follow_end(facts, links, functions, fact)?;
     follow_silent(facts, model, fact)?;
-    follow_back(facts, model, states, fact)?;
-    Ok(())
+    follow_back(facts, model, states, fact)
 }

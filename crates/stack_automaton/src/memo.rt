@@ -1,11 +1,11 @@
 ghost use Rattle.std.specs.Prelude.{◌≡◌, ◌⊎◌, [], Contains, IfOk, IfSome, IsTrue};
-ghost use Rattle.indexmap.specs.IndexMap.{values};
+ghost use Rattle.std.specs.HashMap.{values};
 ghost use Rattle.stack_automaton.specs.Seen.{Memory};
 
 use crate::place::{Fact, Place};
 use dm_base::OutOfMemory;
-use indexmap::IndexMap;
 use std::alloc::Global;
+use std::collections::HashMap;
 
 // The most facts that a memo holds for all its events together.
 const ROOM: usize = 65_536;
@@ -52,7 +52,7 @@ impl Remembered {
 // just the facts that were noted with it, so equal digests do no harm.
 #[derive(Drop)]
 pub struct Memo {
-    entries: IndexMap<u64, Remembered>,
+    entries: HashMap<u64, Remembered>,
     facts: usize,
 }
 
@@ -62,7 +62,7 @@ impl Memo {
         ensures { values result.entries ≡ [] }
     {
         Memo {
-            entries: IndexMap::new(alloc),
+            entries: HashMap::new(alloc),
             facts: 0,
         }
     }

@@ -98,10 +98,7 @@ impl StackMonitor {
         ensures err { OnErr result (self.new ≡ self.old) }
     {
         match self.last {
-            Step::Kept => match self.go_on(pool, model, event) {
-                Ok(step) => Ok(step),
-                Err(error) => Err(error),
-            },
+            Step::Kept => self.go_on(pool, model, event),
             Step::Rejected => Ok(Step::Rejected),
             Step::Bound => Ok(Step::Bound),
         }
@@ -142,8 +139,7 @@ impl Monitor for StackMonitor {
         ensures pool { IfOk result (λ p. IsPoolOf p _model.now) }
         ensures notes { IfOk result (λ p. AreNoted p []) }
     {
-        let pool = Pool::new(alloc)?;
-        Ok(pool)
+        Pool::new(alloc)
     }
 
     fn open(pool: &mut Pool, model: &Model, bound: u32) -> Result<Self, OutOfMemory>
@@ -181,10 +177,7 @@ impl Monitor for StackMonitor {
         ensures notes { AreNoted pool.old [] → AreNoted pool.new [] }
         ensures entries { Extends pool.old pool.new }
     {
-        match self.take(pool, model, event) {
-            Ok(step) => Ok(step),
-            Err(error) => Err(error),
-        }
+        self.take(pool, model, event)
     }
 
     fn copy(&self, pool: &mut Pool) -> Result<Self, OutOfMemory>
@@ -214,10 +207,7 @@ impl Monitor for StackMonitor {
         ensures last { pool.new.final ≡ pool.old.final }
     {
         match self.last {
-            Step::Kept => match pool.note(self.at) {
-                Ok(()) => Ok(()),
-                Err(error) => Err(error),
-            },
+            Step::Kept => pool.note(self.at),
             Step::Rejected => Ok(()),
             Step::Bound => Ok(()),
         }

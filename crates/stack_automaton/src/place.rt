@@ -9,7 +9,7 @@ const INLINE: usize = 2;
 
 /// An edge of a state of the pool: its label, which is a node or a site, and the key of the state to
 /// which it leads.
-#[derive(Clone, Copy, Debug, Default, PartialEq, Eq, PartialOrd, Ord, Hash)]
+#[derive(Clone, Copy, Default, PartialEq, Eq, PartialOrd, Ord, Hash)]
 pub struct Edge {
     pub label: u32,
     pub to: usize,

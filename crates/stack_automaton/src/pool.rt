@@ -70,7 +70,7 @@ impl std::marker::Model for Pool {
 
     ghost use Rattle.std.specs.FinMap.{from_sorted};
     ghost use Rattle.slab.specs.Slab.{entries};
-    ghost use Rattle.indexmap.specs.IndexMap.{values};
+    ghost use Rattle.std.specs.HashMap.{values};
 
     ghost view = { λ p. record { entries = from_sorted (entries p.states); final = p.last; noted = p.notes.keys; remembered = values p.memo.entries } };
 }
@@ -199,8 +199,7 @@ impl Pool {
         ensures pool { IsPoolOf self.new model.now }
         ensures key { IfOk result (λ key. IsKeyOf model.now (edges_at self.new) self.old.final begin.keys key) }
     {
-        let key = self.settle(model, begin)?;
-        Ok(key)
+        self.settle(model, begin)
     }
 
     // The key of the event that begins with these facts: the one that is remembered, or else that of the

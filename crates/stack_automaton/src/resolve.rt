@@ -121,8 +121,7 @@ fn resolve_one(
     }
     link_edges(edges, links, keys, links.of(function))?;
     let key = share(alloc, states, shared, edges)?;
-    note_key(keys, known, place, key)?;
-    Ok(())
+    note_key(keys, known, place, key)
 }
 
 // Stores the states of the functions in the order in which they were found. A function is mostly found

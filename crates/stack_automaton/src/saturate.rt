@@ -8,8 +8,8 @@ use crate::links::Links;
 use crate::place::{Fact, State};
 use dm_base::OutOfMemory;
 use flow_model::Model;
-use indexmap::IndexSet;
 use slab::Slab;
+use std::collections::HashSet;
 
 // All facts of an event, and the calls that are made at it.
 #[derive(Drop)]
@@ -25,7 +25,7 @@ pub fn saturate(
     states: &Slab<State>,
     begin: FactSet,
     room: Links,
-    ended: &mut IndexSet<u32>,
+    ended: &mut HashSet<u32>,
 ) -> Result<Closure, OutOfMemory>
     requires { AreHeld begin.keys }
     ensures { IfOk result (λ done. IsClosure model.now (get states.now) begin.keys done) }

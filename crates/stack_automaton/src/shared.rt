@@ -6,15 +6,15 @@ ghost use Rattle.stack_automaton.specs.Storing.{Grows, IsPut};
 
 use crate::place::{Edge, State};
 use dm_base::OutOfMemory;
-use indexmap::IndexMap;
 use slab::Slab;
 use std::alloc::Global;
+use std::collections::HashMap;
 
 // Keys of states, by a digest of their edges, so that equal states are stored once. A key counts only
 // where the states have just the edges under it, so a key that is out of date does no harm.
 #[derive(Drop)]
 pub struct Shared {
-    keys: IndexMap<u64, usize>,
+    keys: HashMap<u64, usize>,
     // The key behind the last one that was told. It is tried first, since a trace that does again what it
     // did before mostly comes to states in the order in which they were stored.
     next: usize,
@@ -24,7 +24,7 @@ impl Shared {
     // No key is known.
     pub fn new(alloc: Global) -> Shared {
         Shared {
-            keys: IndexMap::new(alloc),
+            keys: HashMap::new(alloc),
             next: 0,
         }
     }

@@ -4,7 +4,7 @@ ghost use Rattle.sys_table.specs.Table.{FitsArgument, FitsNumber, FitsResult};
 use line_text::Arg;
 
 /// The kind of an argument that a trace records of a system call.
-#[derive(Clone, Copy, Debug, PartialEq, Eq)]
+#[derive(Clone, Copy)]
 pub enum ArgKind {
     /// A number from −2^31 to 2^31 − 1.
     Signed,
@@ -38,7 +38,7 @@ impl ArgKind {
 }
 
 /// The kind of a system call's result.
-#[derive(Clone, Copy, Debug, PartialEq, Eq)]
+#[derive(Clone, Copy)]
 pub enum ResultKind {
     /// A number from −2^31 to 2^31 − 1.
     Int,

@@ -1,7 +1,7 @@
 use std::alloc::AllocFailed;
 
 /// Why a file of results was refused. Lines count from 1.
-#[derive(Clone, Copy, Debug, PartialEq, Eq)]
+#[derive(Clone, Copy, PartialEq, Eq)]
 pub enum ResultsError {
     /// Memory was refused.
     OutOfMemory,

@@ -8,7 +8,7 @@ pub struct ProcessReport {
 }
 
 /// How far a process has come: it goes on, it has ended, or it was refused.
-#[derive(Clone, Copy, Debug, PartialEq, Eq)]
+#[derive(Clone, Copy)]
 pub enum StandingKind {
     Open,
     Ended,

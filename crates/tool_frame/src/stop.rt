@@ -5,7 +5,7 @@ use dm_base::{OutOfMemory, Status};
 use dm_io::{ReadError, ReadFail};
 
 /// Why nothing was written.
-#[derive(Debug, Drop)]
+#[derive(Drop)]
 pub enum Stop {
     /// The words are no command line.
     Usage,

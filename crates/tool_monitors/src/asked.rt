@@ -1,5 +1,5 @@
 /// The monitors that a command line asks for.
-#[derive(Clone, Copy, Debug, PartialEq, Eq)]
+#[derive(Clone, Copy)]
 pub enum Asked {
     Callgraph,
     Stack,

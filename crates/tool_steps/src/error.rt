@@ -6,7 +6,7 @@ use c_lexer::LexError;
 use c_parser::ParseError;
 
 /// Why a text is no source. Places are offsets of bytes, counted from 0.
-#[derive(Clone, Copy, Debug, PartialEq, Eq)]
+#[derive(Clone, Copy, PartialEq, Eq)]
 pub enum SourceError {
     /// Memory was refused.
     OutOfMemory,

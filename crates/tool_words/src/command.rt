@@ -15,7 +15,7 @@ use flow_model::Which;
 use tool_monitors::Asked;
 
 /// What the words ask for.
-#[derive(Clone, Copy, Debug, PartialEq, Eq)]
+#[derive(Clone, Copy)]
 pub enum Command<'a> {
     /// The version.
     Version,

@@ -7,11 +7,10 @@ use Rattle.std.specs.Ordering.{nat_cmp, eq_by_cmp}
 use Rattle.std.specs.FinSet.{FinSet, from_list, len, contains, insert, contains-insert, contains_tied, contains-from_list_nat, len-insert, same_set, from_list_push, nat_cmp-IsAntisymmetric}
 use Rattle.std.proofs.lemmas.List.Concat.{flat_map-append}
 use Rattle.std.proofs.lemmas.List.{append-nil}
-use Rattle.indexmap.specs.IndexSet.{insert_key}
 use Rattle.trace_file.specs.declared.record.Record.{Record}
 use Rattle.trace_file.specs.declared.version.TracesVersion.{TracesVersion}
 use Rattle.trace_file.specs.Known.{made_known, known_count}
-use Rattle.trace_file.specs.Processes.{AreKnown}
+use Rattle.trace_file.specs.Processes.{AreKnown, with_process}
 
 any_either_way : (p : ℕ) (ks : List ℕ) → list_any (nat_eq p) ks ≡ list_any (λ y. nat_eq y p) ks
 any_either_way p [] = refl
@@ -26,7 +25,7 @@ insert_there s p there = same_set nat_cmp_total nat_cmp-IsAntisymmetric (insert 
     one q false is = ap (λ b. b || contains s q) is
 
 -- one more number
-pub known_push : (ks numbers : List ℕ) (p : ℕ) → AreKnown ks numbers → AreKnown (insert_key nat_eq ks p) (numbers ++ p ∷ [])
+pub known_push : (ks numbers : List ℕ) (p : ℕ) → AreKnown ks numbers → AreKnown (with_process ks p) (numbers ++ p ∷ [])
 known_push ks numbers p are = by (list_any (nat_eq p) ks) refl
   where
     has : (b : Bool) → list_any (nat_eq p) ks ≡ b → contains (from_list {R = nat_cmp} ks) p ≡ b
@@ -35,13 +34,13 @@ known_push ks numbers p are = by (list_any (nat_eq p) ks) refl
     pushed : from_list {R = nat_cmp} (numbers ++ p ∷ []) ≡ insert (from_list ks) p
     pushed = from_list_push nat_cmp_total nat_cmp-IsAntisymmetric numbers p ∙ ap (λ s. insert s p) (sym are.same)
 
-    by : (b : Bool) → list_any (nat_eq p) ks ≡ b → AreKnown (insert_key nat_eq ks p) (numbers ++ p ∷ [])
+    by : (b : Bool) → list_any (nat_eq p) ks ≡ b → AreKnown (with_process ks p) (numbers ++ p ∷ [])
     by true is =
-        let kept : insert_key nat_eq ks p ≡ ks = ap (λ b. if b then ks else ks ++ p ∷ []) is in
+        let kept : with_process ks p ≡ ks = ap (λ b. if b then ks else ks ++ p ∷ []) is in
         subst (λ (t : List ℕ). AreKnown t (numbers ++ p ∷ [])) (sym kept)
         (record { same = sym (insert_there (from_list ks) p (has true is)) ∙ sym pushed; apart = are.apart })
     by false is =
-        let grown : insert_key nat_eq ks p ≡ ks ++ p ∷ [] = ap (λ b. if b then ks else ks ++ p ∷ []) is in
+        let grown : with_process ks p ≡ ks ++ p ∷ [] = ap (λ b. if b then ks else ks ++ p ∷ []) is in
         let one_more : from_list {R = nat_cmp} (ks ++ p ∷ []) ≡ insert (from_list ks) p = from_list_push nat_cmp_total nat_cmp-IsAntisymmetric ks p in
         subst (λ (t : List ℕ). AreKnown t (numbers ++ p ∷ [])) (sym grown)
         (record {
@@ -50,11 +49,11 @@ known_push ks numbers p are = by (list_any (nat_eq p) ks) refl
         })
 
 -- a record of version 1, or one that made no child
-pub one_known : (version : TracesVersion) (r : Record) (old new : List ℕ) → made_known version r ≡ r.pid ∷ [] → new ≡ insert_key nat_eq old r.pid → (numbers : List ℕ) → AreKnown old numbers → AreKnown new (numbers ++ made_known version r)
+pub one_known : (version : TracesVersion) (r : Record) (old new : List ℕ) → made_known version r ≡ r.pid ∷ [] → new ≡ with_process old r.pid → (numbers : List ℕ) → AreKnown old numbers → AreKnown new (numbers ++ made_known version r)
 one_known version r old new made is numbers are =
     subst (λ (t : List ℕ). AreKnown new (numbers ++ t)) (sym made) (subst (λ (t : List ℕ). AreKnown t (numbers ++ r.pid ∷ [])) (sym is) (known_push old numbers r.pid are))
 
-pub two_known : (version : TracesVersion) (r : Record) (old mid new : List ℕ) (child : ℕ) → made_known version r ≡ r.pid ∷ child ∷ [] → mid ≡ insert_key nat_eq old r.pid → new ≡ insert_key nat_eq mid child → (numbers : List ℕ) → AreKnown old numbers → AreKnown new (numbers ++ made_known version r)
+pub two_known : (version : TracesVersion) (r : Record) (old mid new : List ℕ) (child : ℕ) → made_known version r ≡ r.pid ∷ child ∷ [] → mid ≡ with_process old r.pid → new ≡ with_process mid child → (numbers : List ℕ) → AreKnown old numbers → AreKnown new (numbers ++ made_known version r)
 two_known version r old mid new child made first is numbers are =
     let one : AreKnown mid (numbers ++ r.pid ∷ []) = subst (λ (t : List ℕ). AreKnown t (numbers ++ r.pid ∷ [])) (sym first) (known_push old numbers r.pid are) in
     let two : AreKnown new ((numbers ++ r.pid ∷ []) ++ child ∷ []) = subst (λ (t : List ℕ). AreKnown t ((numbers ++ r.pid ∷ []) ++ child ∷ [])) (sym is) (known_push mid (numbers ++ r.pid ∷ []) child one) in

@@ -2,7 +2,7 @@ use dm_base::OutOfMemory;
 use std::alloc::{AllocError, AllocFailed};
 
 /// Why a trace, or interleaved traces, were refused. Lines count from 1.
-#[derive(Clone, Copy, Debug, PartialEq, Eq)]
+#[derive(Clone, Copy, PartialEq, Eq)]
 pub enum TraceError {
     /// Memory was refused.
     OutOfMemory,

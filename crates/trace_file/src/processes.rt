@@ -1,30 +1,80 @@
-ghost use Rattle.std.specs.Prelude.{◌≡◌, ℕ, ℤ, pos, negsuc, List, [], ◌∷◌, ◌++◌, ◌<◌, ◌≤ℤ◌, length, take, nat_eq, IfSome, IfNone, OnOk, OnErr};
+ghost use Rattle.std.specs.Prelude.{◌≡◌, ℕ, ℤ, pos, negsuc, List, [], ◌∷◌, ◌++◌, ◌-◌, ◌<◌, ◌≤ℤ◌, length, take, IfSome, IfNone, OnOk, OnErr};
 ghost use Rattle.std.specs.Option.{option_to_list};
-ghost use Rattle.indexmap.specs.IndexSet.{insert_key};
 ghost use Rattle.trace_file.specs.Known.{child_of, made_known};
-ghost use Rattle.trace_file.specs.Processes.{AreKnown};
+ghost use Rattle.trace_file.specs.Processes.{AreKnown, AreFound, with_process};
 
 use crate::{Record, TracesVersion};
 use dm_base::{Event, OutOfMemory};
-use indexmap::IndexSet;
 use std::alloc::Global;
+use std::collections::HashSet;
 use std::marker::Model;
 
 /// The number of `fork` in the table of system calls.
 const FORK: u8 = 22;
 
-/// Processes by their numbers, in the order in which they became known.
+/// Processes by their numbers, in the order in which they became known. Seen as their list.
 #[derive(Drop)]
 pub struct Processes {
-    held: IndexSet<u32>,
+    list: Vec<u32>,
+    // Those of the list, to be found by their numbers.
+    found: HashSet<u32>,
 }
 
 impl Model for Processes {
     ghost use Rattle.std.specs.Prelude.{ℕ, List};
+    ghost use Rattle.trace_file.specs.Processes.{AreFound};
 
     ghost Value = { List ℕ };
 
-    ghost view = { λ p. p.held.keys };
+    ghost view = { λ p. p.list.items };
+
+    ghost invariant = { λ p. AreFound p.list.items p.found.keys };
+}
+
+// Makes a process known where it isn't.
+fn add_to_both(
+    list: &mut Vec<u32>,
+    found: &mut HashSet<u32>,
+    process: u32,
+) -> Result<(), OutOfMemory>
+    requires { AreFound list.old.items found.old.keys }
+    ensures added { OnOk result (list.new.items ≡ with_process list.old.items process) }
+    ensures err { OnErr result (list.new.items ≡ list.old.items) }
+    ensures found { AreFound list.new.items found.new.keys }
+{
+    if found.contains(&process) {
+        return Ok(());
+    }
+    list.push(process)?;
+    match found.insert(process) {
+        Ok(_) => Ok(()),
+        Err(refused) => {
+            list.pop();
+            Err(OutOfMemory::from(refused))
+        }
+    }
+}
+
+// Takes the process away that became known last.
+fn take_last(list: &mut Vec<u32>, found: &mut HashSet<u32>)
+    requires { AreFound list.old.items found.old.keys }
+    ensures taken { list.new.items ≡ take (length list.old.items - 1) list.old.items }
+    ensures found { AreFound list.new.items found.new.keys }
+{
+    if let Some(process) = list.pop() {
+        found.remove(&process);
+    }
+}
+
+// Keeps the first processes alone, so many.
+fn cut(list: &mut Vec<u32>, found: &mut HashSet<u32>, len: usize)
+    requires { AreFound list.old.items found.old.keys }
+    ensures cut { list.new.items ≡ take len list.old.items }
+    ensures found { AreFound list.new.items found.new.keys }
+{
+    while len < list.len() {
+        take_last(list, found);
+    }
 }
 
 impl Processes {
@@ -33,7 +83,8 @@ impl Processes {
         ensures { result ≡ [] }
     {
         Processes {
-            held: IndexSet::new(alloc),
+            list: Vec::new(alloc),
+            found: HashSet::new(alloc),
         }
     }
 
@@ -41,23 +92,22 @@ impl Processes {
     pub fn len(&self) -> usize
         ensures { result ≡ length self.now }
     {
-        self.held.len()
+        self.list.len()
     }
 
     /// Keeps the first processes alone, so many.
     pub fn truncate(&mut self, len: usize)
         ensures { self.new ≡ take len self.old }
     {
-        self.held.truncate(len);
+        cut(&mut self.list, &mut self.found, len);
     }
 
     // Makes a process known.
     fn add(&mut self, process: u32) -> Result<(), OutOfMemory>
-        ensures added { OnOk result (self.new ≡ insert_key nat_eq self.old process) }
+        ensures added { OnOk result (self.new ≡ with_process self.old process) }
         ensures err { OnErr result (self.new ≡ self.old) }
     {
-        self.held.insert(process)?;
-        Ok(())
+        add_to_both(&mut self.list, &mut self.found, process)
     }
 
     /// Makes the processes of a record known, after those of others. Where memory is refused some of

@@ -7,29 +7,29 @@ use Rattle.c_check_types.specs.Agreement.{AgreesWith, Names}
 use Rattle.c_check_types.specs.TypedExpressionView.{typed_expression_of}
 use Rattle.c_check_types.proofs.Parts.{raised, names_on}
 use Rattle.c_check_primary.specs.CalleeView.{callee_of}
-use Rattle.c_rules.specs.Assignments.{assignable, assignment_by, comma_of, step}
+use Rattle.c_rules.specs.Assignments.{comma_of}
 use Rattle.c_rules.specs.BinaryExpressions.{choice}
 use Rattle.c_rules.specs.Checked.{faults, fine, on}
 use Rattle.c_rules.specs.Conversions.{valued}
 use Rattle.c_rules.specs.Counts.{after, after_designator, calls, calls_of_all, past, place_of, strings_of_all}
 use Rattle.c_rules.specs.Declarators.{array_of, array_size, behind_parameter, function_of, is_void_pointer, parameter_of, place_of_type, place_or, pointer_to, type_of_spec, with_name_demands}
-use Rattle.c_rules.specs.Expressions.{callee, cast_rule, declared, folded_value, parameters, place_at, size_in, tree, trees, type_named, unary_rule, value}
-use Rattle.c_rules.specs.PostfixExpressions.{called, callee_by_value, member_of, site_of}
+use Rattle.c_rules.specs.Expressions.{callee, cast_rule, declared, folded_value, parameters, size_in, tree, trees, type_named, value}
+use Rattle.c_rules.specs.PostfixExpressions.{called, callee_by_value, site_of}
 use Rattle.c_rules.specs.PrimaryExpressions.{typed_int, named_expression, string_expression}
 use Rattle.c_rules.specs.Scopes.{Env, folded, in_context, inside, nothing_before, sized}
-use Rattle.c_rules.specs.UnaryExpressions.{cast_of, indirection, null_cast, size_of_expression, size_of_type}
+use Rattle.c_rules.specs.UnaryExpressions.{cast_of, null_cast, size_of_expression, size_of_type}
 use Rattle.c_check_counts.specs.View.{before_of, env_of}
 use Rattle.c_check_counts.specs.Environment.{Environment}
-use Rattle.c_syntax.specs.View.{declarator_of, expr_of, ident_of, spec_of, type_name_of}
+use Rattle.c_syntax.specs.View.{declarator_of, expr_of, spec_of, type_name_of}
 use Rattle.c_syntax.specs.Writes.{declarator_behind, declarator_in, expr_behind, exprs_of, params_of}
 use Rattle.c_syntax.specs.declared.tree.Param.{out-Param}
 use Rattle.c_syntax.specs.declared.tree.TypeName.{out-TypeName}
 use Rattle.c_tree.specs.View.{ctype_of, types_of}
-use Rattle.c_check_expressions.specs.Parts.{name_of_param, onto_givens, onto_types, two_rule, type_of_param}
-use Rattle.c_check_expressions.proofs.Exits.{same_ok, kept_then, fails_first, fails_first_of, fails_on, fails_second, fails_second_of, fails_third_of, named_first, named_on, on_ended, on_ok, three_ended, two_ended, counted_as}
+use Rattle.c_check_expressions.specs.Parts.{first_rule, name_of_param, one_rule, onto_givens, onto_types, two_rule, type_of_param}
+use Rattle.c_check_expressions.proofs.Exits.{none_ok, same_ok, kept_then, fails_first, fails_first_of, fails_on, fails_second, fails_second_of, fails_third_of, named_first, named_on, on_ended, on_ok, three_ended, two_ended, counted_as}
 use Rattle.c_check_expressions.proofs.Loops.{counted_more, declares_more, declares_none, name_fails, left_again, parameter_more, parameters_begin, before_none, type_fails, value_fails, value_more, values_begin}
-use Rattle.c_check_expressions.proofs.NodeLemmas.{after-Arrow, after-Assign, after-Call, after-Cast, after-Char, after-Comma, after-Cond, after-Int, after-Member, after-Name, after-PostDec, after-PostInc, after-PreDec, after-PreInc, after-SizeofExpr, after-SizeofType, after-Str, after-Unary, after_two, past_none, past_designator, place_is}
-use Rattle.c_check_expressions.proofs.Trees.{declared-Array, declared-Function, declared-Pointer, operand_fails, tree-Name, tree-Int, tree-Char, box_place, unary_is, declared-Name, tree-Arrow, tree-Assign, tree-Call, tree-Cast, tree-Comma, tree-Cond, tree-Member, tree-PostDec, tree-PostInc, tree-PreDec, tree-PreInc, tree-SizeofExpr, tree-SizeofType, tree-Str, tree-Unary, tree_of_two, type_place}
+use Rattle.c_check_expressions.proofs.NodeLemmas.{after-Call, after-Cast, after-Char, after-Comma, after-Cond, after-Int, after-Name, after-SizeofExpr, after-SizeofType, after-Str, after_one, after_two, past_none, past_designator, place_is}
+use Rattle.c_check_expressions.proofs.Trees.{declared-Array, declared-Function, declared-Pointer, operand_fails, tree-Name, tree-Int, tree-Char, box_place, declared-Name, tree-Call, tree-Cast, tree-Comma, tree-Cond, tree-SizeofExpr, tree-SizeofType, tree-Str, tree_of_one, tree_of_two, type_place}
 use Rattle.c_check_expressions.proofs.expressions.+expression.Goals as goal
 
 pub tree-returns-in-Name : goal.tree-returns-in-Name
@@ -60,9 +60,12 @@ tree-returns-in-Str t c = record {
   kept = same_ok c.next_string.result c.args.env.now;
 }
 
-pub tree-returns-in_err-items-in-Comma-clause-judged : goal.tree-returns-in_err-items-in-Comma-clause-judged
-tree-returns-in_err-items-in-Comma-clause-judged t c =
-    fails_on typed_expression_of c.from_residual.result c.in_err-items-in-Comma.field-0.0 (tree (env_of c.args.env.now) (before_of c.args.before.now) (expr_of c.args.e.now)) (trees (env_of c.args.env.now) (before_of c.args.before.now) (exprs_of c.deref.result.now)) (λ gs. fine (comma_of gs)) c.from_residual.ensures (tree-Comma (env_of c.args.env.now) (before_of c.args.before.now) c.args.e.now c.in-Comma.es c.deref.result.now c.in-Comma.is c.deref.ensures.value) c.in_err-items-in-Comma.ensures.judged
+pub tree-returns-in_err-items-in-Comma : goal.tree-returns-in_err-items-in-Comma
+tree-returns-in_err-items-in-Comma t c = record {
+  judged = fails_on typed_expression_of c.from_residual.result c.in_err-items-in-Comma.field-0.0 (tree (env_of c.args.env.now) (before_of c.args.before.now) (expr_of c.args.e.now)) (trees (env_of c.args.env.now) (before_of c.args.before.now) (exprs_of c.deref.result.now)) (λ gs. fine (comma_of gs)) c.from_residual.ensures (tree-Comma (env_of c.args.env.now) (before_of c.args.before.now) c.args.e.now c.in-Comma.es c.deref.result.now c.in-Comma.is c.deref.ensures.value) c.in_err-items-in-Comma.ensures.judged;
+  counted = none_ok c.from_residual.result _ c.from_residual.ensures.0;
+  kept = none_ok c.from_residual.result _ c.from_residual.ensures.0;
+}
 
 pub tree-returns-in_ok-items-in-Comma : goal.tree-returns-in_ok-items-in-Comma
 tree-returns-in_ok-items-in-Comma t c = record {
@@ -71,9 +74,12 @@ tree-returns-in_ok-items-in-Comma t c = record {
   kept = on_ok c.comma_given.result _ (c.in_ok-items-in-Comma.ensures.kept);
 }
 
-pub tree-returns-in_err-ctype-in-SizeofType-clause-judged : goal.tree-returns-in_err-ctype-in-SizeofType-clause-judged
-tree-returns-in_err-ctype-in-SizeofType-clause-judged t c =
-    fails_on typed_expression_of c.from_residual-in_err-ctype-in-SizeofType.result c.in_err-ctype-in-SizeofType.field-0.0 (tree (env_of c.args.env.now) (before_of c.args.before.now) (expr_of c.args.e.now)) (type_named (env_of c.args.env.now) (type_name_of c.in-SizeofType.name)) (size_of_type (env_of c.args.env.now) c.args.e.now.at (place_of_type (type_name_of c.in-SizeofType.name))) c.from_residual-in_err-ctype-in-SizeofType.ensures (tree-SizeofType (env_of c.args.env.now) (before_of c.args.before.now) c.args.e.now c.in-SizeofType.name c.in-SizeofType.is) c.in_err-ctype-in-SizeofType.ensures.judged
+pub tree-returns-in_err-ctype-in-SizeofType : goal.tree-returns-in_err-ctype-in-SizeofType
+tree-returns-in_err-ctype-in-SizeofType t c = record {
+  judged = fails_on typed_expression_of c.from_residual-in_err-ctype-in-SizeofType.result c.in_err-ctype-in-SizeofType.field-0.0 (tree (env_of c.args.env.now) (before_of c.args.before.now) (expr_of c.args.e.now)) (type_named (env_of c.args.env.now) (type_name_of c.in-SizeofType.name)) (size_of_type (env_of c.args.env.now) c.args.e.now.at (place_of_type (type_name_of c.in-SizeofType.name))) c.from_residual-in_err-ctype-in-SizeofType.ensures (tree-SizeofType (env_of c.args.env.now) (before_of c.args.before.now) c.args.e.now c.in-SizeofType.name c.in-SizeofType.is) c.in_err-ctype-in-SizeofType.ensures.judged;
+  counted = none_ok c.from_residual-in_err-ctype-in-SizeofType.result _ c.from_residual-in_err-ctype-in-SizeofType.ensures.0;
+  kept = none_ok c.from_residual-in_err-ctype-in-SizeofType.result _ c.from_residual-in_err-ctype-in-SizeofType.ensures.0;
+}
 
 pub tree-returns-in_ok-ctype-in-SizeofType : goal.tree-returns-in_ok-ctype-in-SizeofType
 tree-returns-in_ok-ctype-in-SizeofType t c = record {
@@ -82,39 +88,54 @@ tree-returns-in_ok-ctype-in-SizeofType t c = record {
   kept = on_ok c.size_of_type.result _ (c.in_ok-ctype-in-SizeofType.ensures.kept);
 }
 
-pub tree-returns-in_err-given-in-Cast-clause-judged : goal.tree-returns-in_err-given-in-Cast-clause-judged
-tree-returns-in_err-given-in-Cast-clause-judged t c =
-    raised typed_expression_of _ c.from_residual-in_err-given-in-Cast.result c.in_err-given-in-Cast.field-0.0 c.from_residual-in_err-given-in-Cast.ensures (subst (λ r. Names c.in_err-given-in-Cast.field-0.0 (faults r)) (sym (tree-Cast (env_of c.args.env.now) (before_of c.args.before.now) c.args.e.now c.in-Cast.name c.in-Cast.a c.deref-in-Cast.result.now c.in-Cast.is c.deref-in-Cast.ensures)) (operand_fails c.in_err-given-in-Cast.field-0.0 (is_void_pointer (type_name_of c.in-Cast.name)) c.args.e.now.at (type_named (env_of c.args.env.now) (type_name_of c.in-Cast.name)) (value (env_of c.args.env.now) (before_of c.args.before.now) (expr_of c.deref-in-Cast.result.now)) c.in_err-given-in-Cast.ensures.judged))
+pub tree-returns-in_err-given-in-Cast : goal.tree-returns-in_err-given-in-Cast
+tree-returns-in_err-given-in-Cast t c = record {
+  judged = raised typed_expression_of _ c.from_residual-in_err-given-in-Cast.result c.in_err-given-in-Cast.field-0.0 c.from_residual-in_err-given-in-Cast.ensures (subst (λ r. Names c.in_err-given-in-Cast.field-0.0 (faults r)) (sym (tree-Cast (env_of c.args.env.now) (before_of c.args.before.now) c.args.e.now c.in-Cast.name c.in-Cast.a c.deref-in-Cast.result.now c.in-Cast.is c.deref-in-Cast.ensures)) (operand_fails c.in_err-given-in-Cast.field-0.0 (is_void_pointer (type_name_of c.in-Cast.name)) c.args.e.now.at (type_named (env_of c.args.env.now) (type_name_of c.in-Cast.name)) (value (env_of c.args.env.now) (before_of c.args.before.now) (expr_of c.deref-in-Cast.result.now)) c.in_err-given-in-Cast.ensures.judged));
+  counted = none_ok c.from_residual-in_err-given-in-Cast.result _ c.from_residual-in_err-given-in-Cast.ensures.0;
+  kept = none_ok c.from_residual-in_err-given-in-Cast.result _ c.from_residual-in_err-given-in-Cast.ensures.0;
+}
 
 pub tree-returns-then-is_void_pointer : goal.tree-returns-then-is_void_pointer
 tree-returns-then-is_void_pointer t c = record {
-  judged = let w : is_void_pointer (type_name_of c.in-Cast.name) ≡ true = search rules in on_ended typed_expression_of c.null_cast.result (tree (env_of c.args.env.now) (before_of c.args.before.now) (expr_of c.args.e.now)) (value (env_of c.args.env.now) (before_of c.args.before.now) (expr_of c.deref-in-Cast.result.now)) (value (env_of c.args.env.now) (before_of c.args.before.now) (expr_of c.deref-in-Cast.result.now)) (null_cast c.args.e.now.at) (typed_expression_of c.in_ok-given-in-Cast.given) (null_cast c.args.e.now.at (typed_expression_of c.in_ok-given-in-Cast.given)) (tree-Cast (env_of c.args.env.now) (before_of c.args.before.now) c.args.e.now c.in-Cast.name c.in-Cast.a c.deref-in-Cast.result.now c.in-Cast.is c.deref-in-Cast.ensures ∙ ap (λ b. cast_rule b c.args.e.now.at (type_named (env_of c.args.env.now) (type_name_of c.in-Cast.name)) (value (env_of c.args.env.now) (before_of c.args.before.now) (expr_of c.deref-in-Cast.result.now))) w) refl c.in_ok-given-in-Cast.ensures.judged refl c.null_cast.ensures;
+  judged = let w : is_void_pointer (type_name_of c.in-Cast.name) ≡ true = sym c.if-is_void_pointer.ensures in on_ended typed_expression_of c.null_cast.result (tree (env_of c.args.env.now) (before_of c.args.before.now) (expr_of c.args.e.now)) (value (env_of c.args.env.now) (before_of c.args.before.now) (expr_of c.deref-in-Cast.result.now)) (value (env_of c.args.env.now) (before_of c.args.before.now) (expr_of c.deref-in-Cast.result.now)) (null_cast c.args.e.now.at) (typed_expression_of c.in_ok-given-in-Cast.given) (null_cast c.args.e.now.at (typed_expression_of c.in_ok-given-in-Cast.given)) (tree-Cast (env_of c.args.env.now) (before_of c.args.before.now) c.args.e.now c.in-Cast.name c.in-Cast.a c.deref-in-Cast.result.now c.in-Cast.is c.deref-in-Cast.ensures ∙ ap (λ b. cast_rule b c.args.e.now.at (type_named (env_of c.args.env.now) (type_name_of c.in-Cast.name)) (value (env_of c.args.env.now) (before_of c.args.before.now) (expr_of c.deref-in-Cast.result.now))) w) refl c.in_ok-given-in-Cast.ensures.judged refl c.null_cast.ensures;
   counted = on_ok c.null_cast.result _ (c.in_ok-given-in-Cast.ensures.counted ∙ sym (after-Cast (before_of c.args.before.now) c.args.e.now c.in-Cast.name c.in-Cast.a c.deref-in-Cast.result.now c.in-Cast.is c.deref-in-Cast.ensures));
   kept = on_ok c.null_cast.result _ (c.in_ok-given-in-Cast.ensures.kept);
 }
 
-pub tree-returns-in_err-ctype-in-Cast-clause-judged : goal.tree-returns-in_err-ctype-in-Cast-clause-judged
-tree-returns-in_err-ctype-in-Cast-clause-judged t c =
-    let w : is_void_pointer (type_name_of c.in-Cast.name) ≡ false = search rules in raised typed_expression_of _ c.from_residual-in_err-ctype-in-Cast.result c.in_err-ctype-in-Cast.field-0.0 c.from_residual-in_err-ctype-in-Cast.ensures (named_first c.in_err-ctype-in-Cast.field-0.0 (tree (env_of c.args.env.now) (before_of c.args.before.now) (expr_of c.args.e.now)) (type_named (env_of c.args.env.now) (type_name_of c.in-Cast.name)) (type_named (env_of c.value.new.env) (type_name_of c.in-Cast.name)) (value (env_of c.args.env.now) (before_of c.args.before.now) (expr_of c.deref-in-Cast.result.now)) (cast_of c.args.e.now.at) (tree-Cast (env_of c.args.env.now) (before_of c.args.before.now) c.args.e.now c.in-Cast.name c.in-Cast.a c.deref-in-Cast.result.now c.in-Cast.is c.deref-in-Cast.ensures ∙ ap (λ b. cast_rule b c.args.e.now.at (type_named (env_of c.args.env.now) (type_name_of c.in-Cast.name)) (value (env_of c.args.env.now) (before_of c.args.before.now) (expr_of c.deref-in-Cast.result.now))) w) (λ i. type_named (env_of (c.in_ok-given-in-Cast.ensures.kept i)) (type_name_of c.in-Cast.name)) c.in_err-ctype-in-Cast.ensures.judged)
+pub tree-returns-in_err-ctype-in-Cast : goal.tree-returns-in_err-ctype-in-Cast
+tree-returns-in_err-ctype-in-Cast t c = record {
+  judged = let w : is_void_pointer (type_name_of c.in-Cast.name) ≡ false = sym c.if-is_void_pointer.ensures in raised typed_expression_of _ c.from_residual-in_err-ctype-in-Cast.result c.in_err-ctype-in-Cast.field-0.0 c.from_residual-in_err-ctype-in-Cast.ensures (named_first c.in_err-ctype-in-Cast.field-0.0 (tree (env_of c.args.env.now) (before_of c.args.before.now) (expr_of c.args.e.now)) (type_named (env_of c.args.env.now) (type_name_of c.in-Cast.name)) (type_named (env_of c.value.new.env) (type_name_of c.in-Cast.name)) (value (env_of c.args.env.now) (before_of c.args.before.now) (expr_of c.deref-in-Cast.result.now)) (cast_of c.args.e.now.at) (tree-Cast (env_of c.args.env.now) (before_of c.args.before.now) c.args.e.now c.in-Cast.name c.in-Cast.a c.deref-in-Cast.result.now c.in-Cast.is c.deref-in-Cast.ensures ∙ ap (λ b. cast_rule b c.args.e.now.at (type_named (env_of c.args.env.now) (type_name_of c.in-Cast.name)) (value (env_of c.args.env.now) (before_of c.args.before.now) (expr_of c.deref-in-Cast.result.now))) w) (λ i. type_named (env_of (c.in_ok-given-in-Cast.ensures.kept i)) (type_name_of c.in-Cast.name)) c.in_err-ctype-in-Cast.ensures.judged);
+  counted = none_ok c.from_residual-in_err-ctype-in-Cast.result _ c.from_residual-in_err-ctype-in-Cast.ensures.0;
+  kept = none_ok c.from_residual-in_err-ctype-in-Cast.result _ c.from_residual-in_err-ctype-in-Cast.ensures.0;
+}
 
 pub tree-returns-in_ok-ctype-in-Cast : goal.tree-returns-in_ok-ctype-in-Cast
 tree-returns-in_ok-ctype-in-Cast t c = record {
-  judged = let w : is_void_pointer (type_name_of c.in-Cast.name) ≡ false = search rules in two_ended typed_expression_of c.cast_of.result (tree (env_of c.args.env.now) (before_of c.args.before.now) (expr_of c.args.e.now)) (type_named (env_of c.args.env.now) (type_name_of c.in-Cast.name)) (type_named (env_of c.value.new.env) (type_name_of c.in-Cast.name)) (value (env_of c.args.env.now) (before_of c.args.before.now) (expr_of c.deref-in-Cast.result.now)) (value (env_of c.args.env.now) (before_of c.args.before.now) (expr_of c.deref-in-Cast.result.now)) (cast_of c.args.e.now.at) (ctype_of c.in_ok-ctype-in-Cast.ctype) (typed_expression_of c.in_ok-given-in-Cast.given) (cast_of c.args.e.now.at (ctype_of c.in_ok-ctype-in-Cast.ctype) (typed_expression_of c.in_ok-given-in-Cast.given)) (tree-Cast (env_of c.args.env.now) (before_of c.args.before.now) c.args.e.now c.in-Cast.name c.in-Cast.a c.deref-in-Cast.result.now c.in-Cast.is c.deref-in-Cast.ensures ∙ ap (λ b. cast_rule b c.args.e.now.at (type_named (env_of c.args.env.now) (type_name_of c.in-Cast.name)) (value (env_of c.args.env.now) (before_of c.args.before.now) (expr_of c.deref-in-Cast.result.now))) w) (λ i. type_named (env_of (c.in_ok-given-in-Cast.ensures.kept i)) (type_name_of c.in-Cast.name)) c.in_ok-ctype-in-Cast.ensures.judged refl c.in_ok-given-in-Cast.ensures.judged refl c.cast_of.ensures;
+  judged = let w : is_void_pointer (type_name_of c.in-Cast.name) ≡ false = sym c.if-is_void_pointer.ensures in two_ended typed_expression_of c.cast_of.result (tree (env_of c.args.env.now) (before_of c.args.before.now) (expr_of c.args.e.now)) (type_named (env_of c.args.env.now) (type_name_of c.in-Cast.name)) (type_named (env_of c.value.new.env) (type_name_of c.in-Cast.name)) (value (env_of c.args.env.now) (before_of c.args.before.now) (expr_of c.deref-in-Cast.result.now)) (value (env_of c.args.env.now) (before_of c.args.before.now) (expr_of c.deref-in-Cast.result.now)) (cast_of c.args.e.now.at) (ctype_of c.in_ok-ctype-in-Cast.ctype) (typed_expression_of c.in_ok-given-in-Cast.given) (cast_of c.args.e.now.at (ctype_of c.in_ok-ctype-in-Cast.ctype) (typed_expression_of c.in_ok-given-in-Cast.given)) (tree-Cast (env_of c.args.env.now) (before_of c.args.before.now) c.args.e.now c.in-Cast.name c.in-Cast.a c.deref-in-Cast.result.now c.in-Cast.is c.deref-in-Cast.ensures ∙ ap (λ b. cast_rule b c.args.e.now.at (type_named (env_of c.args.env.now) (type_name_of c.in-Cast.name)) (value (env_of c.args.env.now) (before_of c.args.before.now) (expr_of c.deref-in-Cast.result.now))) w) (λ i. type_named (env_of (c.in_ok-given-in-Cast.ensures.kept i)) (type_name_of c.in-Cast.name)) c.in_ok-ctype-in-Cast.ensures.judged refl c.in_ok-given-in-Cast.ensures.judged refl c.cast_of.ensures;
   counted = on_ok c.cast_of.result _ (c.in_ok-given-in-Cast.ensures.counted ∙ sym (after-Cast (before_of c.args.before.now) c.args.e.now c.in-Cast.name c.in-Cast.a c.deref-in-Cast.result.now c.in-Cast.is c.deref-in-Cast.ensures));
   kept = on_ok c.cast_of.result _ (c.in_ok-ctype-in-Cast.ensures.kept ∙ c.in_ok-given-in-Cast.ensures.kept);
 }
 
-pub tree-returns-in_err-callee-in-Call-clause-judged : goal.tree-returns-in_err-callee-in-Call-clause-judged
-tree-returns-in_err-callee-in-Call-clause-judged t c =
-    fails_first_of typed_expression_of c.from_residual-in_err-callee-in-Call.result c.in_err-callee-in-Call.field-0.0 (tree (env_of c.args.env.now) (before_of c.args.before.now) (expr_of c.args.e.now)) (callee (env_of c.args.env.now) c.args.e.now.at (expr_of c.deref-in-Call.result.now) (value (env_of c.args.env.now) (before_of c.args.before.now) (expr_of c.deref-in-Call.result.now))) (site_of (env_of c.args.env.now) ((before_of c.args.before.now).sites + calls (expr_of c.deref-in-Call.result.now)) c.args.e.now.at) (trees (env_of c.args.env.now) (after_designator (before_of c.args.before.now) (expr_of c.deref-in-Call.result.now)) (exprs_of c.in-Call.es.items)) (called c.args.e.now.at) c.from_residual-in_err-callee-in-Call.ensures (tree-Call (env_of c.args.env.now) (before_of c.args.before.now) c.args.e.now c.in-Call.designator c.in-Call.es c.deref-in-Call.result.now c.in-Call.es.items c.in-Call.is c.deref-in-Call.ensures refl) c.in_err-callee-in-Call.ensures.judged
+pub tree-returns-in_err-callee-in-Call : goal.tree-returns-in_err-callee-in-Call
+tree-returns-in_err-callee-in-Call t c = record {
+  judged = fails_first_of typed_expression_of c.from_residual-in_err-callee-in-Call.result c.in_err-callee-in-Call.field-0.0 (tree (env_of c.args.env.now) (before_of c.args.before.now) (expr_of c.args.e.now)) (callee (env_of c.args.env.now) c.args.e.now.at (expr_of c.deref-in-Call.result.now) (value (env_of c.args.env.now) (before_of c.args.before.now) (expr_of c.deref-in-Call.result.now))) (site_of (env_of c.args.env.now) ((before_of c.args.before.now).sites + calls (expr_of c.deref-in-Call.result.now)) c.args.e.now.at) (trees (env_of c.args.env.now) (after_designator (before_of c.args.before.now) (expr_of c.deref-in-Call.result.now)) (exprs_of c.in-Call.es.items)) (called c.args.e.now.at) c.from_residual-in_err-callee-in-Call.ensures (tree-Call (env_of c.args.env.now) (before_of c.args.before.now) c.args.e.now c.in-Call.designator c.in-Call.es c.deref-in-Call.result.now c.in-Call.es.items c.in-Call.is c.deref-in-Call.ensures refl) c.in_err-callee-in-Call.ensures.judged;
+  counted = none_ok c.from_residual-in_err-callee-in-Call.result _ c.from_residual-in_err-callee-in-Call.ensures.0;
+  kept = none_ok c.from_residual-in_err-callee-in-Call.result _ c.from_residual-in_err-callee-in-Call.ensures.0;
+}
 
-pub tree-returns-in_err-site-in-Call-clause-judged : goal.tree-returns-in_err-site-in-Call-clause-judged
-tree-returns-in_err-site-in-Call-clause-judged t c =
-    fails_second_of typed_expression_of c.from_residual-in_err-site-in-Call.result c.in_err-site-in-Call.field-0.0 (tree (env_of c.args.env.now) (before_of c.args.before.now) (expr_of c.args.e.now)) (callee (env_of c.args.env.now) c.args.e.now.at (expr_of c.deref-in-Call.result.now) (value (env_of c.args.env.now) (before_of c.args.before.now) (expr_of c.deref-in-Call.result.now))) (site_of (env_of c.args.env.now) ((before_of c.args.before.now).sites + calls (expr_of c.deref-in-Call.result.now)) c.args.e.now.at) (site_of (env_of c.designated.new.env) (before_of c.designated.new.before).sites c.args.e.now.at) (trees (env_of c.args.env.now) (after_designator (before_of c.args.before.now) (expr_of c.deref-in-Call.result.now)) (exprs_of c.in-Call.es.items)) (called c.args.e.now.at) c.from_residual-in_err-site-in-Call.ensures (tree-Call (env_of c.args.env.now) (before_of c.args.before.now) c.args.e.now c.in-Call.designator c.in-Call.es c.deref-in-Call.result.now c.in-Call.es.items c.in-Call.is c.deref-in-Call.ensures refl) (λ i. site_of (env_of (c.in_ok-callee-in-Call.ensures.kept i)) ((c.in_ok-callee-in-Call.ensures.counted i).sites) c.args.e.now.at) c.in_err-site-in-Call.ensures.judged
+pub tree-returns-in_err-site-in-Call : goal.tree-returns-in_err-site-in-Call
+tree-returns-in_err-site-in-Call t c = record {
+  judged = fails_second_of typed_expression_of c.from_residual-in_err-site-in-Call.result c.in_err-site-in-Call.field-0.0 (tree (env_of c.args.env.now) (before_of c.args.before.now) (expr_of c.args.e.now)) (callee (env_of c.args.env.now) c.args.e.now.at (expr_of c.deref-in-Call.result.now) (value (env_of c.args.env.now) (before_of c.args.before.now) (expr_of c.deref-in-Call.result.now))) (site_of (env_of c.args.env.now) ((before_of c.args.before.now).sites + calls (expr_of c.deref-in-Call.result.now)) c.args.e.now.at) (site_of (env_of c.designated.new.env) (before_of c.designated.new.before).sites c.args.e.now.at) (trees (env_of c.args.env.now) (after_designator (before_of c.args.before.now) (expr_of c.deref-in-Call.result.now)) (exprs_of c.in-Call.es.items)) (called c.args.e.now.at) c.from_residual-in_err-site-in-Call.ensures (tree-Call (env_of c.args.env.now) (before_of c.args.before.now) c.args.e.now c.in-Call.designator c.in-Call.es c.deref-in-Call.result.now c.in-Call.es.items c.in-Call.is c.deref-in-Call.ensures refl) (λ i. site_of (env_of (c.in_ok-callee-in-Call.ensures.kept i)) ((c.in_ok-callee-in-Call.ensures.counted i).sites) c.args.e.now.at) c.in_err-site-in-Call.ensures.judged;
+  counted = none_ok c.from_residual-in_err-site-in-Call.result _ c.from_residual-in_err-site-in-Call.ensures.0;
+  kept = none_ok c.from_residual-in_err-site-in-Call.result _ c.from_residual-in_err-site-in-Call.ensures.0;
+}
 
-pub tree-returns-in_err-arguments-in-Call-clause-judged : goal.tree-returns-in_err-arguments-in-Call-clause-judged
-tree-returns-in_err-arguments-in-Call-clause-judged t c =
-    fails_third_of typed_expression_of c.from_residual-in_err-arguments-in-Call.result c.in_err-arguments-in-Call.field-0.0 (tree (env_of c.args.env.now) (before_of c.args.before.now) (expr_of c.args.e.now)) (callee (env_of c.args.env.now) c.args.e.now.at (expr_of c.deref-in-Call.result.now) (value (env_of c.args.env.now) (before_of c.args.before.now) (expr_of c.deref-in-Call.result.now))) (site_of (env_of c.args.env.now) ((before_of c.args.before.now).sites + calls (expr_of c.deref-in-Call.result.now)) c.args.e.now.at) (trees (env_of c.args.env.now) (after_designator (before_of c.args.before.now) (expr_of c.deref-in-Call.result.now)) (exprs_of c.deref-in-Call-2.result.now)) (trees (env_of c.designated.new.env) (before_of c.next_site.new.before) (exprs_of c.deref-in-Call-2.result.now)) (called c.args.e.now.at) c.from_residual-in_err-arguments-in-Call.ensures (tree-Call (env_of c.args.env.now) (before_of c.args.before.now) c.args.e.now c.in-Call.designator c.in-Call.es c.deref-in-Call.result.now c.deref-in-Call-2.result.now c.in-Call.is c.deref-in-Call.ensures c.deref-in-Call-2.ensures.value) (λ i. trees (env_of (c.in_ok-callee-in-Call.ensures.kept i)) (((c.in_ok-site-in-Call.ensures.counted ∙ ap (λ b. past b 1 []) c.in_ok-callee-in-Call.ensures.counted) ∙ past_designator (before_of c.args.before.now) c.deref-in-Call.result.now) i) (exprs_of c.deref-in-Call-2.result.now)) c.in_err-arguments-in-Call.ensures.judged
+pub tree-returns-in_err-arguments-in-Call : goal.tree-returns-in_err-arguments-in-Call
+tree-returns-in_err-arguments-in-Call t c = record {
+  judged = fails_third_of typed_expression_of c.from_residual-in_err-arguments-in-Call.result c.in_err-arguments-in-Call.field-0.0 (tree (env_of c.args.env.now) (before_of c.args.before.now) (expr_of c.args.e.now)) (callee (env_of c.args.env.now) c.args.e.now.at (expr_of c.deref-in-Call.result.now) (value (env_of c.args.env.now) (before_of c.args.before.now) (expr_of c.deref-in-Call.result.now))) (site_of (env_of c.args.env.now) ((before_of c.args.before.now).sites + calls (expr_of c.deref-in-Call.result.now)) c.args.e.now.at) (trees (env_of c.args.env.now) (after_designator (before_of c.args.before.now) (expr_of c.deref-in-Call.result.now)) (exprs_of c.deref-in-Call-2.result.now)) (trees (env_of c.designated.new.env) (before_of c.next_site.new.before) (exprs_of c.deref-in-Call-2.result.now)) (called c.args.e.now.at) c.from_residual-in_err-arguments-in-Call.ensures (tree-Call (env_of c.args.env.now) (before_of c.args.before.now) c.args.e.now c.in-Call.designator c.in-Call.es c.deref-in-Call.result.now c.deref-in-Call-2.result.now c.in-Call.is c.deref-in-Call.ensures c.deref-in-Call-2.ensures.value) (λ i. trees (env_of (c.in_ok-callee-in-Call.ensures.kept i)) (((c.in_ok-site-in-Call.ensures.counted ∙ ap (λ b. past b 1 []) c.in_ok-callee-in-Call.ensures.counted) ∙ past_designator (before_of c.args.before.now) c.deref-in-Call.result.now) i) (exprs_of c.deref-in-Call-2.result.now)) c.in_err-arguments-in-Call.ensures.judged;
+  counted = none_ok c.from_residual-in_err-arguments-in-Call.result _ c.from_residual-in_err-arguments-in-Call.ensures.0;
+  kept = none_ok c.from_residual-in_err-arguments-in-Call.result _ c.from_residual-in_err-arguments-in-Call.ensures.0;
+}
 
 pub tree-returns-in_ok-arguments-in-Call : goal.tree-returns-in_ok-arguments-in-Call
 tree-returns-in_ok-arguments-in-Call t c = record {
@@ -123,59 +144,26 @@ tree-returns-in_ok-arguments-in-Call t c = record {
   kept = on_ok c.called.result _ (c.in_ok-arguments-in-Call.ensures.kept ∙ c.in_ok-callee-in-Call.ensures.kept);
 }
 
-pub tree-returns-in_err-given-in-Member-clause-judged : goal.tree-returns-in_err-given-in-Member-clause-judged
-tree-returns-in_err-given-in-Member-clause-judged t c =
-    fails_on typed_expression_of c.from_residual-in_err-given-in-Member.result c.in_err-given-in-Member.field-0.0 (tree (env_of c.args.env.now) (before_of c.args.before.now) (expr_of c.args.e.now)) (tree (env_of c.args.env.now) (before_of c.args.before.now) (expr_of c.deref-in-Member.result.now)) (member_of (env_of c.args.env.now) c.args.e.now.at (ident_of c.in-Member.x).name) c.from_residual-in_err-given-in-Member.ensures (tree-Member (env_of c.args.env.now) (before_of c.args.before.now) c.args.e.now c.in-Member.a c.in-Member.x c.deref-in-Member.result.now c.in-Member.is c.deref-in-Member.ensures) c.in_err-given-in-Member.ensures.judged
+pub tree-returns-in_err-given-in-Member : goal.tree-returns-in_err-given-in-Member
+tree-returns-in_err-given-in-Member t c = record {
+  judged = fails_on typed_expression_of c.from_residual-in_err-given-in-Member.result c.in_err-given-in-Member.field-0.0 (tree (env_of c.args.env.now) (before_of c.args.before.now) (expr_of c.args.e.now)) (tree (env_of c.args.env.now) (before_of c.args.before.now) (expr_of c.deref-in-Member.result.now)) (one_rule (env_of c.args.env.now) (expr_of c.args.e.now) (place_of (expr_of c.deref-in-Member.result.now))) c.from_residual-in_err-given-in-Member.ensures (tree_of_one (env_of c.args.env.now) (before_of c.args.before.now) c.args.e.now c.in-Member.a c.deref-in-Member.result.now c.in-Member.is c.deref-in-Member.ensures) c.in_err-given-in-Member.ensures.judged;
+  counted = none_ok c.from_residual-in_err-given-in-Member.result _ c.from_residual-in_err-given-in-Member.ensures.0;
+  kept = none_ok c.from_residual-in_err-given-in-Member.result _ c.from_residual-in_err-given-in-Member.ensures.0;
+}
 
 pub tree-returns-in_ok-given-in-Member : goal.tree-returns-in_ok-given-in-Member
 tree-returns-in_ok-given-in-Member t c = record {
-  judged = on_ended typed_expression_of c.member_of.result (tree (env_of c.args.env.now) (before_of c.args.before.now) (expr_of c.args.e.now)) (tree (env_of c.args.env.now) (before_of c.args.before.now) (expr_of c.deref-in-Member.result.now)) (tree (env_of c.args.env.now) (before_of c.args.before.now) (expr_of c.deref-in-Member.result.now)) (member_of (env_of c.args.env.now) c.args.e.now.at (ident_of c.in-Member.x).name) (typed_expression_of c.in_ok-given-in-Member.given) (member_of (env_of c.tree.new.env) c.args.e.now.at c.as_slice-in-Member.result.now (typed_expression_of c.in_ok-given-in-Member.given)) (tree-Member (env_of c.args.env.now) (before_of c.args.before.now) c.args.e.now c.in-Member.a c.in-Member.x c.deref-in-Member.result.now c.in-Member.is c.deref-in-Member.ensures) refl c.in_ok-given-in-Member.ensures.judged (λ i. member_of (env_of (c.in_ok-given-in-Member.ensures.kept i)) c.args.e.now.at (c.as_slice-in-Member.ensures i) (typed_expression_of c.in_ok-given-in-Member.given)) c.member_of.ensures;
-  counted = on_ok c.member_of.result _ (c.in_ok-given-in-Member.ensures.counted ∙ sym (after-Member (before_of c.args.before.now) c.args.e.now c.in-Member.a c.in-Member.x c.deref-in-Member.result.now c.in-Member.is c.deref-in-Member.ensures));
-  kept = on_ok c.member_of.result _ (c.in_ok-given-in-Member.ensures.kept);
+  judged = on_ended typed_expression_of c.one_given.result (tree (env_of c.args.env.now) (before_of c.args.before.now) (expr_of c.args.e.now)) (tree (env_of c.args.env.now) (before_of c.args.before.now) (expr_of c.deref-in-Member.result.now)) (tree (env_of c.args.env.now) (before_of c.args.before.now) (expr_of c.deref-in-Member.result.now)) (one_rule (env_of c.args.env.now) (expr_of c.args.e.now) (place_of (expr_of c.deref-in-Member.result.now))) (typed_expression_of c.in_ok-given-in-Member.given) (one_rule (env_of c.tree.new.env) (expr_of c.args.e.now) c.deref-in-Member-2.result.now.at (typed_expression_of c.in_ok-given-in-Member.given)) (tree_of_one (env_of c.args.env.now) (before_of c.args.before.now) c.args.e.now c.in-Member.a c.deref-in-Member.result.now c.in-Member.is c.deref-in-Member.ensures) refl c.in_ok-given-in-Member.ensures.judged (λ i. one_rule (env_of (c.in_ok-given-in-Member.ensures.kept i)) (expr_of c.args.e.now) (box_place c.in-Member.a c.deref-in-Member.result.now c.deref-in-Member-2.result.now c.deref-in-Member.ensures c.deref-in-Member-2.ensures i) (typed_expression_of c.in_ok-given-in-Member.given)) c.one_given.ensures;
+  counted = on_ok c.one_given.result _ (c.in_ok-given-in-Member.ensures.counted ∙ sym (after_one (before_of c.args.before.now) c.args.e.now c.in-Member.a c.deref-in-Member.result.now c.in-Member.is c.deref-in-Member.ensures));
+  kept = on_ok c.one_given.result _ c.in_ok-given-in-Member.ensures.kept;
 }
 
-pub tree-returns-in_err-pointer-in-Arrow-clause-judged : goal.tree-returns-in_err-pointer-in-Arrow-clause-judged
-tree-returns-in_err-pointer-in-Arrow-clause-judged t c =
-    fails_on typed_expression_of c.from_residual-in_err-pointer-in-Arrow.result c.in_err-pointer-in-Arrow.field-0.0 (tree (env_of c.args.env.now) (before_of c.args.before.now) (expr_of c.args.e.now)) (on (value (env_of c.args.env.now) (before_of c.args.before.now) (expr_of c.deref-in-Arrow.result.now)) (indirection c.args.e.now.at)) (member_of (env_of c.args.env.now) c.args.e.now.at (ident_of c.in-Arrow.x).name) c.from_residual-in_err-pointer-in-Arrow.ensures (tree-Arrow (env_of c.args.env.now) (before_of c.args.before.now) c.args.e.now c.in-Arrow.a c.in-Arrow.x c.deref-in-Arrow.result.now c.in-Arrow.is c.deref-in-Arrow.ensures) (names_on c.in_err-pointer-in-Arrow.field-0.0 (value (env_of c.args.env.now) (before_of c.args.before.now) (expr_of c.deref-in-Arrow.result.now)) (indirection c.args.e.now.at) c.in_err-pointer-in-Arrow.ensures.judged)
-
-pub tree-returns-in_ok-pointer-in-Arrow : goal.tree-returns-in_ok-pointer-in-Arrow
-tree-returns-in_ok-pointer-in-Arrow t c = record {
-  judged = subst (AgreesWith typed_expression_of c.member_behind.result) ((λ i. on (indirection c.args.e.now.at (typed_expression_of c.in_ok-pointer-in-Arrow.pointer)) (member_of (env_of (c.in_ok-pointer-in-Arrow.ensures.kept i)) c.args.e.now.at (c.as_slice-in-Arrow.ensures i))) ∙ ap (λ r. on (on r (indirection c.args.e.now.at)) (member_of (env_of c.args.env.now) c.args.e.now.at (ident_of c.in-Arrow.x).name)) (sym c.in_ok-pointer-in-Arrow.ensures.judged) ∙ sym (tree-Arrow (env_of c.args.env.now) (before_of c.args.before.now) c.args.e.now c.in-Arrow.a c.in-Arrow.x c.deref-in-Arrow.result.now c.in-Arrow.is c.deref-in-Arrow.ensures)) c.member_behind.ensures;
-  counted = on_ok c.member_behind.result _ (c.in_ok-pointer-in-Arrow.ensures.counted ∙ sym (after-Arrow (before_of c.args.before.now) c.args.e.now c.in-Arrow.a c.in-Arrow.x c.deref-in-Arrow.result.now c.in-Arrow.is c.deref-in-Arrow.ensures));
-  kept = on_ok c.member_behind.result _ (c.in_ok-pointer-in-Arrow.ensures.kept);
+pub tree-returns-in_err-given-in-SizeofExpr : goal.tree-returns-in_err-given-in-SizeofExpr
+tree-returns-in_err-given-in-SizeofExpr t c = record {
+  judged = fails_on typed_expression_of c.from_residual-in_err-given-in-SizeofExpr.result c.in_err-given-in-SizeofExpr.field-0.0 (tree (env_of c.args.env.now) (before_of c.args.before.now) (expr_of c.args.e.now)) (tree (in_context (env_of c.args.env.now) sized) nothing_before (expr_of c.deref-in-SizeofExpr.result.now)) (size_of_expression (env_of c.args.env.now) c.args.e.now.at) c.from_residual-in_err-given-in-SizeofExpr.ensures (tree-SizeofExpr (env_of c.args.env.now) (before_of c.args.before.now) c.args.e.now c.in-SizeofExpr.a c.deref-in-SizeofExpr.result.now c.in-SizeofExpr.is c.deref-in-SizeofExpr.ensures) c.in_err-given-in-SizeofExpr.ensures.judged;
+  counted = none_ok c.from_residual-in_err-given-in-SizeofExpr.result _ c.from_residual-in_err-given-in-SizeofExpr.ensures.0;
+  kept = none_ok c.from_residual-in_err-given-in-SizeofExpr.result _ c.from_residual-in_err-given-in-SizeofExpr.ensures.0;
 }
-
-pub tree-returns-in-PostInc : goal.tree-returns-in-PostInc
-tree-returns-in-PostInc t c = record {
-  judged = subst (AgreesWith typed_expression_of c.stepped.result) (sym (tree-PostInc (env_of c.args.env.now) (before_of c.args.before.now) c.args.e.now c.in-PostInc.a c.deref-in-PostInc.result.now c.in-PostInc.is c.deref-in-PostInc.ensures)) c.stepped.ensures.judged;
-  counted = counted_as c.stepped.result (before_of c.stepped.new.before) (after (before_of c.args.before.now) (expr_of c.deref-in-PostInc.result.now)) (after (before_of c.args.before.now) (expr_of c.args.e.now)) c.stepped.ensures.counted (sym (after-PostInc (before_of c.args.before.now) c.args.e.now c.in-PostInc.a c.deref-in-PostInc.result.now c.in-PostInc.is c.deref-in-PostInc.ensures));
-  kept = c.stepped.ensures.kept;
-}
-
-pub tree-returns-in-PostDec : goal.tree-returns-in-PostDec
-tree-returns-in-PostDec t c = record {
-  judged = subst (AgreesWith typed_expression_of c.stepped-in-PostDec.result) (sym (tree-PostDec (env_of c.args.env.now) (before_of c.args.before.now) c.args.e.now c.in-PostDec.a c.deref-in-PostDec.result.now c.in-PostDec.is c.deref-in-PostDec.ensures)) c.stepped-in-PostDec.ensures.judged;
-  counted = counted_as c.stepped-in-PostDec.result (before_of c.stepped-in-PostDec.new.before) (after (before_of c.args.before.now) (expr_of c.deref-in-PostDec.result.now)) (after (before_of c.args.before.now) (expr_of c.args.e.now)) c.stepped-in-PostDec.ensures.counted (sym (after-PostDec (before_of c.args.before.now) c.args.e.now c.in-PostDec.a c.deref-in-PostDec.result.now c.in-PostDec.is c.deref-in-PostDec.ensures));
-  kept = c.stepped-in-PostDec.ensures.kept;
-}
-
-pub tree-returns-in-PreInc : goal.tree-returns-in-PreInc
-tree-returns-in-PreInc t c = record {
-  judged = subst (AgreesWith typed_expression_of c.stepped-in-PreInc.result) (sym (tree-PreInc (env_of c.args.env.now) (before_of c.args.before.now) c.args.e.now c.in-PreInc.a c.deref-in-PreInc.result.now c.in-PreInc.is c.deref-in-PreInc.ensures)) c.stepped-in-PreInc.ensures.judged;
-  counted = counted_as c.stepped-in-PreInc.result (before_of c.stepped-in-PreInc.new.before) (after (before_of c.args.before.now) (expr_of c.deref-in-PreInc.result.now)) (after (before_of c.args.before.now) (expr_of c.args.e.now)) c.stepped-in-PreInc.ensures.counted (sym (after-PreInc (before_of c.args.before.now) c.args.e.now c.in-PreInc.a c.deref-in-PreInc.result.now c.in-PreInc.is c.deref-in-PreInc.ensures));
-  kept = c.stepped-in-PreInc.ensures.kept;
-}
-
-pub tree-returns-in-PreDec : goal.tree-returns-in-PreDec
-tree-returns-in-PreDec t c = record {
-  judged = subst (AgreesWith typed_expression_of c.stepped-in-PreDec.result) (sym (tree-PreDec (env_of c.args.env.now) (before_of c.args.before.now) c.args.e.now c.in-PreDec.a c.deref-in-PreDec.result.now c.in-PreDec.is c.deref-in-PreDec.ensures)) c.stepped-in-PreDec.ensures.judged;
-  counted = counted_as c.stepped-in-PreDec.result (before_of c.stepped-in-PreDec.new.before) (after (before_of c.args.before.now) (expr_of c.deref-in-PreDec.result.now)) (after (before_of c.args.before.now) (expr_of c.args.e.now)) c.stepped-in-PreDec.ensures.counted (sym (after-PreDec (before_of c.args.before.now) c.args.e.now c.in-PreDec.a c.deref-in-PreDec.result.now c.in-PreDec.is c.deref-in-PreDec.ensures));
-  kept = c.stepped-in-PreDec.ensures.kept;
-}
-
-pub tree-returns-in_err-given-in-SizeofExpr-clause-judged : goal.tree-returns-in_err-given-in-SizeofExpr-clause-judged
-tree-returns-in_err-given-in-SizeofExpr-clause-judged t c =
-    fails_on typed_expression_of c.from_residual-in_err-given-in-SizeofExpr.result c.in_err-given-in-SizeofExpr.field-0.0 (tree (env_of c.args.env.now) (before_of c.args.before.now) (expr_of c.args.e.now)) (tree (in_context (env_of c.args.env.now) sized) nothing_before (expr_of c.deref-in-SizeofExpr.result.now)) (size_of_expression (env_of c.args.env.now) c.args.e.now.at) c.from_residual-in_err-given-in-SizeofExpr.ensures (tree-SizeofExpr (env_of c.args.env.now) (before_of c.args.before.now) c.args.e.now c.in-SizeofExpr.a c.deref-in-SizeofExpr.result.now c.in-SizeofExpr.is c.deref-in-SizeofExpr.ensures) c.in_err-given-in-SizeofExpr.ensures.judged
 
 pub tree-returns-in_ok-given-in-SizeofExpr : goal.tree-returns-in_ok-given-in-SizeofExpr
 tree-returns-in_ok-given-in-SizeofExpr t c = record {
@@ -184,58 +172,47 @@ tree-returns-in_ok-given-in-SizeofExpr t c = record {
   kept = on_ok c.size_of_expression.result _ (c.in_ok-given-in-SizeofExpr.ensures.kept);
 }
 
-pub tree-returns-in_err-given-in-Unary-clause-judged : goal.tree-returns-in_err-given-in-Unary-clause-judged
-tree-returns-in_err-given-in-Unary-clause-judged t c =
-    fails_on typed_expression_of c.from_residual-in_err-given-in-Unary.result c.in_err-given-in-Unary.field-0.0 (tree (env_of c.args.env.now) (before_of c.args.before.now) (expr_of c.args.e.now)) (tree (env_of c.args.env.now) (before_of c.args.before.now) (expr_of c.deref-in-Unary.result.now)) (λ g. unary_rule (env_of c.args.env.now) c.args.e.now.at (place_of (expr_of c.deref-in-Unary.result.now)) c.in-Unary.op (fine g)) c.from_residual-in_err-given-in-Unary.ensures (tree-Unary (env_of c.args.env.now) (before_of c.args.before.now) c.args.e.now c.in-Unary.op c.in-Unary.a c.deref-in-Unary.result.now c.in-Unary.is c.deref-in-Unary.ensures ∙ unary_is (env_of c.args.env.now) c.args.e.now.at (place_of (expr_of c.deref-in-Unary.result.now)) c.in-Unary.op (tree (env_of c.args.env.now) (before_of c.args.before.now) (expr_of c.deref-in-Unary.result.now))) c.in_err-given-in-Unary.ensures.judged
-
-pub tree-returns-in_ok-given-in-Unary : goal.tree-returns-in_ok-given-in-Unary
-tree-returns-in_ok-given-in-Unary t c = record {
-  judged = on_ended typed_expression_of c.unary_given.result (tree (env_of c.args.env.now) (before_of c.args.before.now) (expr_of c.args.e.now)) (tree (env_of c.args.env.now) (before_of c.args.before.now) (expr_of c.deref-in-Unary.result.now)) (tree (env_of c.args.env.now) (before_of c.args.before.now) (expr_of c.deref-in-Unary.result.now)) (λ g. unary_rule (env_of c.args.env.now) c.args.e.now.at (place_of (expr_of c.deref-in-Unary.result.now)) c.in-Unary.op (fine g)) (typed_expression_of c.in_ok-given-in-Unary.given) (unary_rule (env_of c.tree-in-Unary.new.env) c.args.e.now.at c.deref-in-Unary-2.result.now.at c.in-Unary.op (fine (typed_expression_of c.in_ok-given-in-Unary.given))) (tree-Unary (env_of c.args.env.now) (before_of c.args.before.now) c.args.e.now c.in-Unary.op c.in-Unary.a c.deref-in-Unary.result.now c.in-Unary.is c.deref-in-Unary.ensures ∙ unary_is (env_of c.args.env.now) c.args.e.now.at (place_of (expr_of c.deref-in-Unary.result.now)) c.in-Unary.op (tree (env_of c.args.env.now) (before_of c.args.before.now) (expr_of c.deref-in-Unary.result.now))) refl c.in_ok-given-in-Unary.ensures.judged (λ i. unary_rule (env_of (c.in_ok-given-in-Unary.ensures.kept i)) c.args.e.now.at (box_place c.in-Unary.a c.deref-in-Unary.result.now c.deref-in-Unary-2.result.now c.deref-in-Unary.ensures c.deref-in-Unary-2.ensures i) c.in-Unary.op (fine (typed_expression_of c.in_ok-given-in-Unary.given))) c.unary_given.ensures;
-  counted = on_ok c.unary_given.result _ (c.in_ok-given-in-Unary.ensures.counted ∙ sym (after-Unary (before_of c.args.before.now) c.args.e.now c.in-Unary.op c.in-Unary.a c.deref-in-Unary.result.now c.in-Unary.is c.deref-in-Unary.ensures));
-  kept = on_ok c.unary_given.result _ (c.in_ok-given-in-Unary.ensures.kept);
+pub tree-returns-in_err-left-in-Index : goal.tree-returns-in_err-left-in-Index
+tree-returns-in_err-left-in-Index t c = record {
+  judged = fails_first typed_expression_of c.from_residual-in_err-left-in-Index.result c.in_err-left-in-Index.field-0.0 (tree (env_of c.args.env.now) (before_of c.args.before.now) (expr_of c.args.e.now)) (on (tree (env_of c.args.env.now) (before_of c.args.before.now) (expr_of c.deref-in-Index.result.now)) (first_rule (env_of c.args.env.now) (expr_of c.args.e.now) (place_of (expr_of c.deref-in-Index.result.now)))) (value (env_of c.args.env.now) (after (before_of c.args.before.now) (expr_of c.deref-in-Index.result.now)) (expr_of c.in-Index.b.value)) (two_rule (env_of c.args.env.now) (expr_of c.args.e.now)) c.from_residual-in_err-left-in-Index.ensures (tree_of_two (env_of c.args.env.now) (before_of c.args.before.now) c.args.e.now c.in-Index.a c.in-Index.b c.deref-in-Index.result.now c.in-Index.b.value c.in-Index.is c.deref-in-Index.ensures refl) c.in_err-left-in-Index.ensures.judged;
+  counted = none_ok c.from_residual-in_err-left-in-Index.result _ c.from_residual-in_err-left-in-Index.ensures.0;
+  kept = none_ok c.from_residual-in_err-left-in-Index.result _ c.from_residual-in_err-left-in-Index.ensures.0;
 }
 
-pub tree-returns-in_err-left-in-Index-clause-judged : goal.tree-returns-in_err-left-in-Index-clause-judged
-tree-returns-in_err-left-in-Index-clause-judged t c =
-    fails_first typed_expression_of c.from_residual-in_err-left-in-Index.result c.in_err-left-in-Index.field-0.0 (tree (env_of c.args.env.now) (before_of c.args.before.now) (expr_of c.args.e.now)) (value (env_of c.args.env.now) (before_of c.args.before.now) (expr_of c.deref-in-Index.result.now)) (value (env_of c.args.env.now) (after (before_of c.args.before.now) (expr_of c.deref-in-Index.result.now)) (expr_of c.in-Index.b.value)) (two_rule (env_of c.args.env.now) (expr_of c.args.e.now)) c.from_residual-in_err-left-in-Index.ensures (tree_of_two (env_of c.args.env.now) (before_of c.args.before.now) c.args.e.now c.in-Index.a c.in-Index.b c.deref-in-Index.result.now c.in-Index.b.value c.in-Index.is c.deref-in-Index.ensures refl) c.in_err-left-in-Index.ensures.judged
-
-pub tree-returns-in_err-right-in-Index-clause-judged : goal.tree-returns-in_err-right-in-Index-clause-judged
-tree-returns-in_err-right-in-Index-clause-judged t c =
-    fails_second typed_expression_of c.from_residual-in_err-right-in-Index.result c.in_err-right-in-Index.field-0.0 (tree (env_of c.args.env.now) (before_of c.args.before.now) (expr_of c.args.e.now)) (value (env_of c.args.env.now) (before_of c.args.before.now) (expr_of c.deref-in-Index.result.now)) (value (env_of c.args.env.now) (after (before_of c.args.before.now) (expr_of c.deref-in-Index.result.now)) (expr_of c.deref-in-Index-2.result.now)) (value (env_of c.value-in-Index.new.env) (before_of c.value-in-Index.new.before) (expr_of c.deref-in-Index-2.result.now)) (two_rule (env_of c.args.env.now) (expr_of c.args.e.now)) c.from_residual-in_err-right-in-Index.ensures (tree_of_two (env_of c.args.env.now) (before_of c.args.before.now) c.args.e.now c.in-Index.a c.in-Index.b c.deref-in-Index.result.now c.deref-in-Index-2.result.now c.in-Index.is c.deref-in-Index.ensures c.deref-in-Index-2.ensures) (λ i. value (env_of (c.in_ok-left-in-Index.ensures.kept i)) (c.in_ok-left-in-Index.ensures.counted i) (expr_of c.deref-in-Index-2.result.now)) c.in_err-right-in-Index.ensures.judged
+pub tree-returns-in_err-right-in-Index : goal.tree-returns-in_err-right-in-Index
+tree-returns-in_err-right-in-Index t c = record {
+  judged = fails_second typed_expression_of c.from_residual-in_err-right-in-Index.result c.in_err-right-in-Index.field-0.0 (tree (env_of c.args.env.now) (before_of c.args.before.now) (expr_of c.args.e.now)) (on (tree (env_of c.args.env.now) (before_of c.args.before.now) (expr_of c.deref-in-Index.result.now)) (first_rule (env_of c.args.env.now) (expr_of c.args.e.now) (place_of (expr_of c.deref-in-Index.result.now)))) (value (env_of c.args.env.now) (after (before_of c.args.before.now) (expr_of c.deref-in-Index.result.now)) (expr_of c.deref-in-Index-2.result.now)) (value (env_of c.operand.new.env) (before_of c.operand.new.before) (expr_of c.deref-in-Index-2.result.now)) (two_rule (env_of c.args.env.now) (expr_of c.args.e.now)) c.from_residual-in_err-right-in-Index.ensures (tree_of_two (env_of c.args.env.now) (before_of c.args.before.now) c.args.e.now c.in-Index.a c.in-Index.b c.deref-in-Index.result.now c.deref-in-Index-2.result.now c.in-Index.is c.deref-in-Index.ensures c.deref-in-Index-2.ensures) (λ i. value (env_of (c.in_ok-left-in-Index.ensures.kept i)) (c.in_ok-left-in-Index.ensures.counted i) (expr_of c.deref-in-Index-2.result.now)) c.in_err-right-in-Index.ensures.judged;
+  counted = none_ok c.from_residual-in_err-right-in-Index.result _ c.from_residual-in_err-right-in-Index.ensures.0;
+  kept = none_ok c.from_residual-in_err-right-in-Index.result _ c.from_residual-in_err-right-in-Index.ensures.0;
+}
 
 pub tree-returns-in_ok-right-in-Index : goal.tree-returns-in_ok-right-in-Index
 tree-returns-in_ok-right-in-Index t c = record {
-  judged = two_ended typed_expression_of c.two_given.result (tree (env_of c.args.env.now) (before_of c.args.before.now) (expr_of c.args.e.now)) (value (env_of c.args.env.now) (before_of c.args.before.now) (expr_of c.deref-in-Index.result.now)) (value (env_of c.args.env.now) (before_of c.args.before.now) (expr_of c.deref-in-Index.result.now)) (value (env_of c.args.env.now) (after (before_of c.args.before.now) (expr_of c.deref-in-Index.result.now)) (expr_of c.deref-in-Index-2.result.now)) (value (env_of c.value-in-Index.new.env) (before_of c.value-in-Index.new.before) (expr_of c.deref-in-Index-2.result.now)) (two_rule (env_of c.args.env.now) (expr_of c.args.e.now)) (typed_expression_of c.in_ok-left-in-Index.left) (typed_expression_of c.in_ok-right-in-Index.right) (two_rule (env_of c.value-in-Index-2.new.env) (expr_of c.args.e.now) (typed_expression_of c.in_ok-left-in-Index.left) (typed_expression_of c.in_ok-right-in-Index.right)) (tree_of_two (env_of c.args.env.now) (before_of c.args.before.now) c.args.e.now c.in-Index.a c.in-Index.b c.deref-in-Index.result.now c.deref-in-Index-2.result.now c.in-Index.is c.deref-in-Index.ensures c.deref-in-Index-2.ensures) refl c.in_ok-left-in-Index.ensures.judged (λ i. value (env_of (c.in_ok-left-in-Index.ensures.kept i)) (c.in_ok-left-in-Index.ensures.counted i) (expr_of c.deref-in-Index-2.result.now)) c.in_ok-right-in-Index.ensures.judged (λ i. two_rule (env_of ((c.in_ok-right-in-Index.ensures.kept ∙ c.in_ok-left-in-Index.ensures.kept) i)) (expr_of c.args.e.now) (typed_expression_of c.in_ok-left-in-Index.left) (typed_expression_of c.in_ok-right-in-Index.right)) c.two_given.ensures;
+  judged = two_ended typed_expression_of c.two_given.result (tree (env_of c.args.env.now) (before_of c.args.before.now) (expr_of c.args.e.now)) (on (tree (env_of c.args.env.now) (before_of c.args.before.now) (expr_of c.deref-in-Index.result.now)) (first_rule (env_of c.args.env.now) (expr_of c.args.e.now) (place_of (expr_of c.deref-in-Index.result.now)))) (on (tree (env_of c.args.env.now) (before_of c.args.before.now) (expr_of c.deref-in-Index.result.now)) (first_rule (env_of c.args.env.now) (expr_of c.args.e.now) (place_of (expr_of c.deref-in-Index.result.now)))) (value (env_of c.args.env.now) (after (before_of c.args.before.now) (expr_of c.deref-in-Index.result.now)) (expr_of c.deref-in-Index-2.result.now)) (value (env_of c.operand.new.env) (before_of c.operand.new.before) (expr_of c.deref-in-Index-2.result.now)) (two_rule (env_of c.args.env.now) (expr_of c.args.e.now)) (typed_expression_of c.in_ok-left-in-Index.left) (typed_expression_of c.in_ok-right-in-Index.right) (two_rule (env_of c.value-in-Index.new.env) (expr_of c.args.e.now) (typed_expression_of c.in_ok-left-in-Index.left) (typed_expression_of c.in_ok-right-in-Index.right)) (tree_of_two (env_of c.args.env.now) (before_of c.args.before.now) c.args.e.now c.in-Index.a c.in-Index.b c.deref-in-Index.result.now c.deref-in-Index-2.result.now c.in-Index.is c.deref-in-Index.ensures c.deref-in-Index-2.ensures) refl c.in_ok-left-in-Index.ensures.judged (λ i. value (env_of (c.in_ok-left-in-Index.ensures.kept i)) (c.in_ok-left-in-Index.ensures.counted i) (expr_of c.deref-in-Index-2.result.now)) c.in_ok-right-in-Index.ensures.judged (λ i. two_rule (env_of ((c.in_ok-right-in-Index.ensures.kept ∙ c.in_ok-left-in-Index.ensures.kept) i)) (expr_of c.args.e.now) (typed_expression_of c.in_ok-left-in-Index.left) (typed_expression_of c.in_ok-right-in-Index.right)) c.two_given.ensures;
   counted = on_ok c.two_given.result _ (c.in_ok-right-in-Index.ensures.counted ∙ ap (λ b. after b (expr_of c.deref-in-Index-2.result.now)) c.in_ok-left-in-Index.ensures.counted ∙ sym (after_two (before_of c.args.before.now) c.args.e.now c.in-Index.a c.in-Index.b c.deref-in-Index.result.now c.deref-in-Index-2.result.now c.in-Index.is c.deref-in-Index.ensures c.deref-in-Index-2.ensures));
   kept = on_ok c.two_given.result _ (c.in_ok-right-in-Index.ensures.kept ∙ c.in_ok-left-in-Index.ensures.kept);
 }
 
-pub tree-returns-in_err-target-in-Assign-clause-judged : goal.tree-returns-in_err-target-in-Assign-clause-judged
-tree-returns-in_err-target-in-Assign-clause-judged t c =
-    fails_first typed_expression_of c.from_residual-in_err-target-in-Assign.result c.in_err-target-in-Assign.field-0.0 (tree (env_of c.args.env.now) (before_of c.args.before.now) (expr_of c.args.e.now)) (place_at (place_of (expr_of c.deref-in-Assign.result.now)) (tree (env_of c.args.env.now) (before_of c.args.before.now) (expr_of c.deref-in-Assign.result.now))) (value (env_of c.args.env.now) (after (before_of c.args.before.now) (expr_of c.deref-in-Assign.result.now)) (expr_of c.in-Assign.b.value)) (assignment_by (env_of c.args.env.now) c.args.e.now.at c.in-Assign.op) c.from_residual-in_err-target-in-Assign.ensures (tree-Assign (env_of c.args.env.now) (before_of c.args.before.now) c.args.e.now c.in-Assign.op c.in-Assign.a c.in-Assign.b c.deref-in-Assign.result.now c.in-Assign.b.value c.in-Assign.is c.deref-in-Assign.ensures refl) c.in_err-target-in-Assign.ensures.judged
-
-pub tree-returns-in_err-source-in-Assign-clause-judged : goal.tree-returns-in_err-source-in-Assign-clause-judged
-tree-returns-in_err-source-in-Assign-clause-judged t c =
-    fails_second typed_expression_of c.from_residual-in_err-source-in-Assign.result c.in_err-source-in-Assign.field-0.0 (tree (env_of c.args.env.now) (before_of c.args.before.now) (expr_of c.args.e.now)) (place_at (place_of (expr_of c.deref-in-Assign.result.now)) (tree (env_of c.args.env.now) (before_of c.args.before.now) (expr_of c.deref-in-Assign.result.now))) (value (env_of c.args.env.now) (after (before_of c.args.before.now) (expr_of c.deref-in-Assign.result.now)) (expr_of c.deref-in-Assign-2.result.now)) (value (env_of c.place.new.env) (before_of c.place.new.before) (expr_of c.deref-in-Assign-2.result.now)) (assignment_by (env_of c.args.env.now) c.args.e.now.at c.in-Assign.op) c.from_residual-in_err-source-in-Assign.ensures (tree-Assign (env_of c.args.env.now) (before_of c.args.before.now) c.args.e.now c.in-Assign.op c.in-Assign.a c.in-Assign.b c.deref-in-Assign.result.now c.deref-in-Assign-2.result.now c.in-Assign.is c.deref-in-Assign.ensures c.deref-in-Assign-2.ensures) (λ i. value (env_of (c.in_ok-target-in-Assign.ensures.kept i)) (c.in_ok-target-in-Assign.ensures.counted i) (expr_of c.deref-in-Assign-2.result.now)) c.in_err-source-in-Assign.ensures.judged
-
-pub tree-returns-in_ok-source-in-Assign : goal.tree-returns-in_ok-source-in-Assign
-tree-returns-in_ok-source-in-Assign t c = record {
-  judged = two_ended typed_expression_of c.assignment_by.result (tree (env_of c.args.env.now) (before_of c.args.before.now) (expr_of c.args.e.now)) (place_at (place_of (expr_of c.deref-in-Assign.result.now)) (tree (env_of c.args.env.now) (before_of c.args.before.now) (expr_of c.deref-in-Assign.result.now))) (place_at (place_of (expr_of c.deref-in-Assign.result.now)) (tree (env_of c.args.env.now) (before_of c.args.before.now) (expr_of c.deref-in-Assign.result.now))) (value (env_of c.args.env.now) (after (before_of c.args.before.now) (expr_of c.deref-in-Assign.result.now)) (expr_of c.deref-in-Assign-2.result.now)) (value (env_of c.place.new.env) (before_of c.place.new.before) (expr_of c.deref-in-Assign-2.result.now)) (assignment_by (env_of c.args.env.now) c.args.e.now.at c.in-Assign.op) (typed_expression_of c.in_ok-target-in-Assign.target) (typed_expression_of c.in_ok-source-in-Assign.source) (assignment_by (env_of c.value-in-Assign.new.env) c.args.e.now.at c.in-Assign.op (typed_expression_of c.in_ok-target-in-Assign.target) (typed_expression_of c.in_ok-source-in-Assign.source)) (tree-Assign (env_of c.args.env.now) (before_of c.args.before.now) c.args.e.now c.in-Assign.op c.in-Assign.a c.in-Assign.b c.deref-in-Assign.result.now c.deref-in-Assign-2.result.now c.in-Assign.is c.deref-in-Assign.ensures c.deref-in-Assign-2.ensures) refl c.in_ok-target-in-Assign.ensures.judged (λ i. value (env_of (c.in_ok-target-in-Assign.ensures.kept i)) (c.in_ok-target-in-Assign.ensures.counted i) (expr_of c.deref-in-Assign-2.result.now)) c.in_ok-source-in-Assign.ensures.judged (λ i. assignment_by (env_of ((c.in_ok-source-in-Assign.ensures.kept ∙ c.in_ok-target-in-Assign.ensures.kept) i)) c.args.e.now.at c.in-Assign.op (typed_expression_of c.in_ok-target-in-Assign.target) (typed_expression_of c.in_ok-source-in-Assign.source)) c.assignment_by.ensures;
-  counted = on_ok c.assignment_by.result _ (c.in_ok-source-in-Assign.ensures.counted ∙ ap (λ b. after b (expr_of c.deref-in-Assign-2.result.now)) c.in_ok-target-in-Assign.ensures.counted ∙ sym (after-Assign (before_of c.args.before.now) c.args.e.now c.in-Assign.op c.in-Assign.a c.in-Assign.b c.deref-in-Assign.result.now c.deref-in-Assign-2.result.now c.in-Assign.is c.deref-in-Assign.ensures c.deref-in-Assign-2.ensures));
-  kept = on_ok c.assignment_by.result _ (c.in_ok-source-in-Assign.ensures.kept ∙ c.in_ok-target-in-Assign.ensures.kept);
+pub tree-returns-in_err-test-in-Cond : goal.tree-returns-in_err-test-in-Cond
+tree-returns-in_err-test-in-Cond t c = record {
+  judged = fails_first_of typed_expression_of c.from_residual-in_err-test-in-Cond.result c.in_err-test-in-Cond.field-0.0 (tree (env_of c.args.env.now) (before_of c.args.before.now) (expr_of c.args.e.now)) (value (env_of c.args.env.now) (before_of c.args.before.now) (expr_of c.deref-in-Cond.result.now)) (value (env_of c.args.env.now) (after (before_of c.args.before.now) (expr_of c.deref-in-Cond.result.now)) (expr_of c.in-Cond.a.value)) (value (env_of c.args.env.now) (after (after (before_of c.args.before.now) (expr_of c.deref-in-Cond.result.now)) (expr_of c.in-Cond.a.value)) (expr_of c.in-Cond.b.value)) (choice c.args.e.now.at) c.from_residual-in_err-test-in-Cond.ensures (tree-Cond (env_of c.args.env.now) (before_of c.args.before.now) c.args.e.now c.in-Cond.c c.in-Cond.a c.in-Cond.b c.deref-in-Cond.result.now c.in-Cond.a.value c.in-Cond.b.value c.in-Cond.is c.deref-in-Cond.ensures refl refl) c.in_err-test-in-Cond.ensures.judged;
+  counted = none_ok c.from_residual-in_err-test-in-Cond.result _ c.from_residual-in_err-test-in-Cond.ensures.0;
+  kept = none_ok c.from_residual-in_err-test-in-Cond.result _ c.from_residual-in_err-test-in-Cond.ensures.0;
 }
 
-pub tree-returns-in_err-test-in-Cond-clause-judged : goal.tree-returns-in_err-test-in-Cond-clause-judged
-tree-returns-in_err-test-in-Cond-clause-judged t c =
-    fails_first_of typed_expression_of c.from_residual-in_err-test-in-Cond.result c.in_err-test-in-Cond.field-0.0 (tree (env_of c.args.env.now) (before_of c.args.before.now) (expr_of c.args.e.now)) (value (env_of c.args.env.now) (before_of c.args.before.now) (expr_of c.deref-in-Cond.result.now)) (value (env_of c.args.env.now) (after (before_of c.args.before.now) (expr_of c.deref-in-Cond.result.now)) (expr_of c.in-Cond.a.value)) (value (env_of c.args.env.now) (after (after (before_of c.args.before.now) (expr_of c.deref-in-Cond.result.now)) (expr_of c.in-Cond.a.value)) (expr_of c.in-Cond.b.value)) (choice c.args.e.now.at) c.from_residual-in_err-test-in-Cond.ensures (tree-Cond (env_of c.args.env.now) (before_of c.args.before.now) c.args.e.now c.in-Cond.c c.in-Cond.a c.in-Cond.b c.deref-in-Cond.result.now c.in-Cond.a.value c.in-Cond.b.value c.in-Cond.is c.deref-in-Cond.ensures refl refl) c.in_err-test-in-Cond.ensures.judged
+pub tree-returns-in_err-left-in-Cond : goal.tree-returns-in_err-left-in-Cond
+tree-returns-in_err-left-in-Cond t c = record {
+  judged = fails_second_of typed_expression_of c.from_residual-in_err-left-in-Cond.result c.in_err-left-in-Cond.field-0.0 (tree (env_of c.args.env.now) (before_of c.args.before.now) (expr_of c.args.e.now)) (value (env_of c.args.env.now) (before_of c.args.before.now) (expr_of c.deref-in-Cond.result.now)) (value (env_of c.args.env.now) (after (before_of c.args.before.now) (expr_of c.deref-in-Cond.result.now)) (expr_of c.deref-in-Cond-2.result.now)) (value (env_of c.value-in-Cond.new.env) (before_of c.value-in-Cond.new.before) (expr_of c.deref-in-Cond-2.result.now)) (value (env_of c.args.env.now) (after (after (before_of c.args.before.now) (expr_of c.deref-in-Cond.result.now)) (expr_of c.deref-in-Cond-2.result.now)) (expr_of c.in-Cond.b.value)) (choice c.args.e.now.at) c.from_residual-in_err-left-in-Cond.ensures (tree-Cond (env_of c.args.env.now) (before_of c.args.before.now) c.args.e.now c.in-Cond.c c.in-Cond.a c.in-Cond.b c.deref-in-Cond.result.now c.deref-in-Cond-2.result.now c.in-Cond.b.value c.in-Cond.is c.deref-in-Cond.ensures c.deref-in-Cond-2.ensures refl) (λ i. value (env_of (c.in_ok-test-in-Cond.ensures.kept i)) (c.in_ok-test-in-Cond.ensures.counted i) (expr_of c.deref-in-Cond-2.result.now)) c.in_err-left-in-Cond.ensures.judged;
+  counted = none_ok c.from_residual-in_err-left-in-Cond.result _ c.from_residual-in_err-left-in-Cond.ensures.0;
+  kept = none_ok c.from_residual-in_err-left-in-Cond.result _ c.from_residual-in_err-left-in-Cond.ensures.0;
+}
 
-pub tree-returns-in_err-left-in-Cond-clause-judged : goal.tree-returns-in_err-left-in-Cond-clause-judged
-tree-returns-in_err-left-in-Cond-clause-judged t c =
-    fails_second_of typed_expression_of c.from_residual-in_err-left-in-Cond.result c.in_err-left-in-Cond.field-0.0 (tree (env_of c.args.env.now) (before_of c.args.before.now) (expr_of c.args.e.now)) (value (env_of c.args.env.now) (before_of c.args.before.now) (expr_of c.deref-in-Cond.result.now)) (value (env_of c.args.env.now) (after (before_of c.args.before.now) (expr_of c.deref-in-Cond.result.now)) (expr_of c.deref-in-Cond-2.result.now)) (value (env_of c.value-in-Cond.new.env) (before_of c.value-in-Cond.new.before) (expr_of c.deref-in-Cond-2.result.now)) (value (env_of c.args.env.now) (after (after (before_of c.args.before.now) (expr_of c.deref-in-Cond.result.now)) (expr_of c.deref-in-Cond-2.result.now)) (expr_of c.in-Cond.b.value)) (choice c.args.e.now.at) c.from_residual-in_err-left-in-Cond.ensures (tree-Cond (env_of c.args.env.now) (before_of c.args.before.now) c.args.e.now c.in-Cond.c c.in-Cond.a c.in-Cond.b c.deref-in-Cond.result.now c.deref-in-Cond-2.result.now c.in-Cond.b.value c.in-Cond.is c.deref-in-Cond.ensures c.deref-in-Cond-2.ensures refl) (λ i. value (env_of (c.in_ok-test-in-Cond.ensures.kept i)) (c.in_ok-test-in-Cond.ensures.counted i) (expr_of c.deref-in-Cond-2.result.now)) c.in_err-left-in-Cond.ensures.judged
-
-pub tree-returns-in_err-right-in-Cond-clause-judged : goal.tree-returns-in_err-right-in-Cond-clause-judged
-tree-returns-in_err-right-in-Cond-clause-judged t c =
-    fails_third_of typed_expression_of c.from_residual-in_err-right-in-Cond.result c.in_err-right-in-Cond.field-0.0 (tree (env_of c.args.env.now) (before_of c.args.before.now) (expr_of c.args.e.now)) (value (env_of c.args.env.now) (before_of c.args.before.now) (expr_of c.deref-in-Cond.result.now)) (value (env_of c.args.env.now) (after (before_of c.args.before.now) (expr_of c.deref-in-Cond.result.now)) (expr_of c.deref-in-Cond-2.result.now)) (value (env_of c.args.env.now) (after (after (before_of c.args.before.now) (expr_of c.deref-in-Cond.result.now)) (expr_of c.deref-in-Cond-2.result.now)) (expr_of c.deref-in-Cond-3.result.now)) (value (env_of c.value-in-Cond-2.new.env) (before_of c.value-in-Cond-2.new.before) (expr_of c.deref-in-Cond-3.result.now)) (choice c.args.e.now.at) c.from_residual-in_err-right-in-Cond.ensures (tree-Cond (env_of c.args.env.now) (before_of c.args.before.now) c.args.e.now c.in-Cond.c c.in-Cond.a c.in-Cond.b c.deref-in-Cond.result.now c.deref-in-Cond-2.result.now c.deref-in-Cond-3.result.now c.in-Cond.is c.deref-in-Cond.ensures c.deref-in-Cond-2.ensures c.deref-in-Cond-3.ensures) (λ i. value (env_of ((c.in_ok-left-in-Cond.ensures.kept ∙ c.in_ok-test-in-Cond.ensures.kept) i)) ((c.in_ok-left-in-Cond.ensures.counted ∙ ap (λ b. after b (expr_of c.deref-in-Cond-2.result.now)) c.in_ok-test-in-Cond.ensures.counted) i) (expr_of c.deref-in-Cond-3.result.now)) c.in_err-right-in-Cond.ensures.judged
+pub tree-returns-in_err-right-in-Cond : goal.tree-returns-in_err-right-in-Cond
+tree-returns-in_err-right-in-Cond t c = record {
+  judged = fails_third_of typed_expression_of c.from_residual-in_err-right-in-Cond.result c.in_err-right-in-Cond.field-0.0 (tree (env_of c.args.env.now) (before_of c.args.before.now) (expr_of c.args.e.now)) (value (env_of c.args.env.now) (before_of c.args.before.now) (expr_of c.deref-in-Cond.result.now)) (value (env_of c.args.env.now) (after (before_of c.args.before.now) (expr_of c.deref-in-Cond.result.now)) (expr_of c.deref-in-Cond-2.result.now)) (value (env_of c.args.env.now) (after (after (before_of c.args.before.now) (expr_of c.deref-in-Cond.result.now)) (expr_of c.deref-in-Cond-2.result.now)) (expr_of c.deref-in-Cond-3.result.now)) (value (env_of c.value-in-Cond-2.new.env) (before_of c.value-in-Cond-2.new.before) (expr_of c.deref-in-Cond-3.result.now)) (choice c.args.e.now.at) c.from_residual-in_err-right-in-Cond.ensures (tree-Cond (env_of c.args.env.now) (before_of c.args.before.now) c.args.e.now c.in-Cond.c c.in-Cond.a c.in-Cond.b c.deref-in-Cond.result.now c.deref-in-Cond-2.result.now c.deref-in-Cond-3.result.now c.in-Cond.is c.deref-in-Cond.ensures c.deref-in-Cond-2.ensures c.deref-in-Cond-3.ensures) (λ i. value (env_of ((c.in_ok-left-in-Cond.ensures.kept ∙ c.in_ok-test-in-Cond.ensures.kept) i)) ((c.in_ok-left-in-Cond.ensures.counted ∙ ap (λ b. after b (expr_of c.deref-in-Cond-2.result.now)) c.in_ok-test-in-Cond.ensures.counted) i) (expr_of c.deref-in-Cond-3.result.now)) c.in_err-right-in-Cond.ensures.judged;
+  counted = none_ok c.from_residual-in_err-right-in-Cond.result _ c.from_residual-in_err-right-in-Cond.ensures.0;
+  kept = none_ok c.from_residual-in_err-right-in-Cond.result _ c.from_residual-in_err-right-in-Cond.ensures.0;
+}
 
 pub tree-returns-in_ok-right-in-Cond : goal.tree-returns-in_ok-right-in-Cond
 tree-returns-in_ok-right-in-Cond t c = record {
@@ -244,9 +221,12 @@ tree-returns-in_ok-right-in-Cond t c = record {
   kept = on_ok c.choice.result _ (c.in_ok-right-in-Cond.ensures.kept ∙ c.in_ok-left-in-Cond.ensures.kept ∙ c.in_ok-test-in-Cond.ensures.kept);
 }
 
-pub value-returns-in_err-given-clause-judged : goal.value-returns-in_err-given-clause-judged
-value-returns-in_err-given-clause-judged t c =
-    fails_on typed_expression_of c.from_residual.result c.in_err-given.field-0.0 (value (env_of c.args.env.now) (before_of c.args.before.now) (expr_of c.args.e.now)) (tree (env_of c.args.env.now) (before_of c.args.before.now) (expr_of c.args.e.now)) (valued (env_of c.args.env.now) (place_of (expr_of c.args.e.now))) c.from_residual.ensures refl c.in_err-given.ensures.judged
+pub value-returns-in_err-given : goal.value-returns-in_err-given
+value-returns-in_err-given t c = record {
+  judged = fails_on typed_expression_of c.from_residual.result c.in_err-given.field-0.0 (value (env_of c.args.env.now) (before_of c.args.before.now) (expr_of c.args.e.now)) (tree (env_of c.args.env.now) (before_of c.args.before.now) (expr_of c.args.e.now)) (valued (env_of c.args.env.now) (place_of (expr_of c.args.e.now))) c.from_residual.ensures refl c.in_err-given.ensures.judged;
+  counted = none_ok c.from_residual.result _ c.from_residual.ensures.0;
+  kept = none_ok c.from_residual.result _ c.from_residual.ensures.0;
+}
 
 pub value-returns : goal.value-returns
 value-returns t c = record {
@@ -255,15 +235,18 @@ value-returns t c = record {
   kept = on_ok c.valued.result _ (c.in_ok-given.ensures.kept);
 }
 
-pub place-returns-in_err-given-clause-judged : goal.place-returns-in_err-given-clause-judged
-place-returns-in_err-given-clause-judged t c =
-    fails_on typed_expression_of c.from_residual.result c.in_err-given.field-0.0 (place_at (place_of (expr_of c.args.e.now)) (tree (env_of c.args.env.now) (before_of c.args.before.now) (expr_of c.args.e.now))) (tree (env_of c.args.env.now) (before_of c.args.before.now) (expr_of c.args.e.now)) (assignable (place_of (expr_of c.args.e.now))) c.from_residual.ensures refl c.in_err-given.ensures.judged
+pub operand-returns-in_err-given : goal.operand-returns-in_err-given
+operand-returns-in_err-given t c = record {
+  judged = fails_on typed_expression_of c.from_residual.result c.in_err-given.field-0.0 (on (tree (env_of c.args.env.now) (before_of c.args.before.now) (expr_of c.args.e.now)) (first_rule (env_of c.args.env.now) (expr_of c.args.form.now) (place_of (expr_of c.args.e.now)))) (tree (env_of c.args.env.now) (before_of c.args.before.now) (expr_of c.args.e.now)) (first_rule (env_of c.args.env.now) (expr_of c.args.form.now) (place_of (expr_of c.args.e.now))) c.from_residual.ensures refl c.in_err-given.ensures.judged;
+  counted = none_ok c.from_residual.result _ c.from_residual.ensures.0;
+  kept = none_ok c.from_residual.result _ c.from_residual.ensures.0;
+}
 
-pub place-returns : goal.place-returns
-place-returns t c = record {
-  judged = on_ended typed_expression_of c.assignable.result (place_at (place_of (expr_of c.args.e.now)) (tree (env_of c.args.env.now) (before_of c.args.before.now) (expr_of c.args.e.now))) (tree (env_of c.args.env.now) (before_of c.args.before.now) (expr_of c.args.e.now)) (tree (env_of c.args.env.now) (before_of c.args.before.now) (expr_of c.args.e.now)) (assignable (place_of (expr_of c.args.e.now))) (typed_expression_of c.in_ok-given.given) (assignable c.args.e.now.at (typed_expression_of c.in_ok-given.given)) refl refl c.in_ok-given.ensures.judged (λ i. assignable (sym (place_is c.args.e.now.at c.args.e.now.kind) i) (typed_expression_of c.in_ok-given.given)) c.assignable.ensures;
-  counted = on_ok c.assignable.result _ (c.in_ok-given.ensures.counted);
-  kept = on_ok c.assignable.result _ (c.in_ok-given.ensures.kept);
+pub operand-returns : goal.operand-returns
+operand-returns t c = record {
+  judged = on_ended typed_expression_of c.first_given.result (on (tree (env_of c.args.env.now) (before_of c.args.before.now) (expr_of c.args.e.now)) (first_rule (env_of c.args.env.now) (expr_of c.args.form.now) (place_of (expr_of c.args.e.now)))) (tree (env_of c.args.env.now) (before_of c.args.before.now) (expr_of c.args.e.now)) (tree (env_of c.args.env.now) (before_of c.args.before.now) (expr_of c.args.e.now)) (first_rule (env_of c.args.env.now) (expr_of c.args.form.now) (place_of (expr_of c.args.e.now))) (typed_expression_of c.in_ok-given.given) (first_rule (env_of c.tree.new.env) (expr_of c.args.form.now) c.args.e.now.at (typed_expression_of c.in_ok-given.given)) refl refl c.in_ok-given.ensures.judged (λ i. first_rule (env_of (c.in_ok-given.ensures.kept i)) (expr_of c.args.form.now) (sym (place_is c.args.e.now.at c.args.e.now.kind) i) (typed_expression_of c.in_ok-given.given)) c.first_given.ensures;
+  counted = on_ok c.first_given.result _ c.in_ok-given.ensures.counted;
+  kept = on_ok c.first_given.result _ c.in_ok-given.ensures.kept;
 }
 
 pub unevaluated-returns : goal.unevaluated-returns
@@ -278,9 +261,12 @@ folded_value-returns t c = record {
   kept = on_ok_weaker c.value-given.result (λ q. ap (λ v. (λ (w : Environment). record w { context = c.args.env.now.context }) v) q) c.value-given.ensures.kept;
 }
 
-pub values-returns-in_err-one-clause-judged : goal.values-returns-in_err-one-clause-judged
-values-returns-in_err-one-clause-judged t c =
-    raised (λ v. map typed_expression_of v.items) _ c.from_residual.result c.in_err-one.field-0.0 c.from_residual.ensures (value_fails c.in_err-one.field-0.0 (env_of c.loop-e.env) (before_of c.loop-e.before) c.args.es.now c.loop-e.e-index c.e-item.result (map typed_expression_of c.loop-e.given.items) (trees (env_of c.args.env.now) (before_of c.args.before.now) (exprs_of c.args.es.now)) c.loop-e-test.true c.e-item.is c.loop-e.invariant.found c.in_err-one.ensures.judged)
+pub values-returns-in_err-one : goal.values-returns-in_err-one
+values-returns-in_err-one t c = record {
+  judged = raised (λ v. map typed_expression_of v.items) _ c.from_residual.result c.in_err-one.field-0.0 c.from_residual.ensures (value_fails c.in_err-one.field-0.0 (env_of c.loop-e.env) (before_of c.loop-e.before) c.args.es.now c.loop-e.e-index c.e-item.result (map typed_expression_of c.loop-e.given.items) (trees (env_of c.args.env.now) (before_of c.args.before.now) (exprs_of c.args.es.now)) c.loop-e-test.true c.e-item.is c.loop-e.invariant.found c.in_err-one.ensures.judged);
+  counted = none_ok c.from_residual.result _ c.from_residual.ensures.0;
+  kept = none_ok c.from_residual.result _ c.from_residual.ensures.0;
+}
 
 pub values-loop-e-preserved : goal.values-loop-e-preserved
 values-loop-e-preserved t c =
@@ -308,9 +294,12 @@ designated-returns-in-Some t c = record {
   kept = same_ok c.in-Some.found c.args.env.now;
 }
 
-pub designated-returns-in_err-given-in-None-clause-judged : goal.designated-returns-in_err-given-in-None-clause-judged
-designated-returns-in_err-given-in-None-clause-judged t c =
-    fails_on callee_of c.from_residual.result c.in_err-given-in-None.field-0.0 (callee (env_of c.args.env.now) c.args.at (expr_of c.args.designator.now) (value (env_of c.args.env.now) (before_of c.args.before.now) (expr_of c.args.designator.now))) (value (env_of c.args.env.now) (before_of c.args.before.now) (expr_of c.args.designator.now)) (callee_by_value c.args.at) c.from_residual.ensures (c.in-None.ensures.through (value (env_of c.args.env.now) (before_of c.args.before.now) (expr_of c.args.designator.now))) c.in_err-given-in-None.ensures.judged
+pub designated-returns-in_err-given-in-None : goal.designated-returns-in_err-given-in-None
+designated-returns-in_err-given-in-None t c = record {
+  judged = fails_on callee_of c.from_residual.result c.in_err-given-in-None.field-0.0 (callee (env_of c.args.env.now) c.args.at (expr_of c.args.designator.now) (value (env_of c.args.env.now) (before_of c.args.before.now) (expr_of c.args.designator.now))) (value (env_of c.args.env.now) (before_of c.args.before.now) (expr_of c.args.designator.now)) (callee_by_value c.args.at) c.from_residual.ensures (c.in-None.ensures.through (value (env_of c.args.env.now) (before_of c.args.before.now) (expr_of c.args.designator.now))) c.in_err-given-in-None.ensures.judged;
+  counted = none_ok c.from_residual.result _ c.from_residual.ensures.0;
+  kept = none_ok c.from_residual.result _ c.from_residual.ensures.0;
+}
 
 pub designated-returns-in_ok-given-in-None : goal.designated-returns-in_ok-given-in-None
 designated-returns-in_ok-given-in-None t c = record {
@@ -319,26 +308,17 @@ designated-returns-in_ok-given-in-None t c = record {
   kept = on_ok c.callee_by_value.result _ (c.in_ok-given-in-None.ensures.kept);
 }
 
-pub stepped-returns-in_err-given-clause-judged : goal.stepped-returns-in_err-given-clause-judged
-stepped-returns-in_err-given-clause-judged t c =
-    fails_on typed_expression_of c.from_residual.result c.in_err-given.field-0.0 (on (place_at (place_of (expr_of c.args.a.now)) (tree (env_of c.args.env.now) (before_of c.args.before.now) (expr_of c.args.a.now))) (step (env_of c.args.env.now) c.args.at c.args.op c.args.old)) (place_at (place_of (expr_of c.args.a.now)) (tree (env_of c.args.env.now) (before_of c.args.before.now) (expr_of c.args.a.now))) (step (env_of c.args.env.now) c.args.at c.args.op c.args.old) c.from_residual.ensures refl c.in_err-given.ensures.judged
-
-pub stepped-returns : goal.stepped-returns
-stepped-returns t c = record {
-  judged = on_ended typed_expression_of c.step.result (on (place_at (place_of (expr_of c.args.a.now)) (tree (env_of c.args.env.now) (before_of c.args.before.now) (expr_of c.args.a.now))) (step (env_of c.args.env.now) c.args.at c.args.op c.args.old)) (place_at (place_of (expr_of c.args.a.now)) (tree (env_of c.args.env.now) (before_of c.args.before.now) (expr_of c.args.a.now))) (place_at (place_of (expr_of c.args.a.now)) (tree (env_of c.args.env.now) (before_of c.args.before.now) (expr_of c.args.a.now))) (step (env_of c.args.env.now) c.args.at c.args.op c.args.old) (typed_expression_of c.in_ok-given.given) (step (env_of c.place.new.env) c.args.at c.args.op c.args.old (typed_expression_of c.in_ok-given.given)) refl refl c.in_ok-given.ensures.judged (λ i. step (env_of (c.in_ok-given.ensures.kept i)) c.args.at c.args.op c.args.old (typed_expression_of c.in_ok-given.given)) c.step.ensures;
-  counted = on_ok c.step.result _ (c.in_ok-given.ensures.counted);
-  kept = on_ok c.step.result _ (c.in_ok-given.ensures.kept);
-}
-
 pub type_named-returns : goal.type_named-returns
 type_named-returns t c = record {
   judged = subst (AgreesWith ctype_of c.type_specified.result) (ap (type_named (env_of c.args.env.now)) (sym (type_name_is c.args.name.now))) c.type_specified.ensures.judged;
   kept = c.type_specified.ensures.kept;
 }
 
-pub type_specified-returns-in_err-ctype-clause-judged : goal.type_specified-returns-in_err-ctype-clause-judged
-type_specified-returns-in_err-ctype-clause-judged t c =
-    fails_on ctype_of c.from_residual.result c.in_err-ctype.field-0.0 (on (type_of_spec (env_of c.args.env.now) c.args.at (spec_of c.args.spec.now)) (declared (env_of c.args.env.now) (declarator_in c.args.declarator.now))) (type_of_spec (env_of c.args.env.now) c.args.at (spec_of c.args.spec.now)) (declared (env_of c.args.env.now) (declarator_in c.args.declarator.now)) c.from_residual.ensures refl c.in_err-ctype.ensures
+pub type_specified-returns-in_err-ctype : goal.type_specified-returns-in_err-ctype
+type_specified-returns-in_err-ctype t c = record {
+  judged = fails_on ctype_of c.from_residual.result c.in_err-ctype.field-0.0 (on (type_of_spec (env_of c.args.env.now) c.args.at (spec_of c.args.spec.now)) (declared (env_of c.args.env.now) (declarator_in c.args.declarator.now))) (type_of_spec (env_of c.args.env.now) c.args.at (spec_of c.args.spec.now)) (declared (env_of c.args.env.now) (declarator_in c.args.declarator.now)) c.from_residual.ensures refl c.in_err-ctype.ensures;
+  kept = none_ok c.from_residual.result _ c.from_residual.ensures.0;
+}
 
 pub type_specified-returns-in-Some : goal.type_specified-returns-in-Some
 type_specified-returns-in-Some t c = record {
@@ -358,9 +338,11 @@ declared-returns-in-Name t c = record {
   kept = refl;
 }
 
-pub declared-returns-in_err-pointer-in-Pointer-clause-judged : goal.declared-returns-in_err-pointer-in-Pointer-clause-judged
-declared-returns-in_err-pointer-in-Pointer-clause-judged t c =
-    fails_on ctype_of c.from_residual.result c.in_err-pointer-in-Pointer.field-0.0 (declared (env_of c.args.env.now) (declarator_of c.args.d.now) (ctype_of c.args.ctype)) (pointer_to c.args.d.now.at (ctype_of c.args.ctype)) (λ u. declared (env_of c.args.env.now) (declarator_behind c.in-Pointer.inner) u) c.from_residual.ensures (declared-Pointer (env_of c.args.env.now) c.args.d.now (ctype_of c.args.ctype) c.in-Pointer.inner c.in-Pointer.is) c.in_err-pointer-in-Pointer.ensures
+pub declared-returns-in_err-pointer-in-Pointer : goal.declared-returns-in_err-pointer-in-Pointer
+declared-returns-in_err-pointer-in-Pointer t c = record {
+  judged = fails_on ctype_of c.from_residual.result c.in_err-pointer-in-Pointer.field-0.0 (declared (env_of c.args.env.now) (declarator_of c.args.d.now) (ctype_of c.args.ctype)) (pointer_to c.args.d.now.at (ctype_of c.args.ctype)) (λ u. declared (env_of c.args.env.now) (declarator_behind c.in-Pointer.inner) u) c.from_residual.ensures (declared-Pointer (env_of c.args.env.now) c.args.d.now (ctype_of c.args.ctype) c.in-Pointer.inner c.in-Pointer.is) c.in_err-pointer-in-Pointer.ensures;
+  kept = none_ok c.from_residual.result _ c.from_residual.ensures.0;
+}
 
 pub declared-returns-in_ok-pointer-in-Pointer : goal.declared-returns-in_ok-pointer-in-Pointer
 declared-returns-in_ok-pointer-in-Pointer t c = record {
@@ -368,13 +350,17 @@ declared-returns-in_ok-pointer-in-Pointer t c = record {
   kept = c.declared_inside.ensures.kept;
 }
 
-pub declared-returns-in_err-length-in-Array-clause-judged : goal.declared-returns-in_err-length-in-Array-clause-judged
-declared-returns-in_err-length-in-Array-clause-judged t c =
-    fails_on ctype_of c.from_residual-in_err-length-in-Array.result c.in_err-length-in-Array.field-0.0 (declared (env_of c.args.env.now) (declarator_of c.args.d.now) (ctype_of c.args.ctype)) (on (size_in (env_of c.args.env.now) (expr_behind c.in-Array.size)) (array_of (env_of c.args.env.now) c.args.d.now.at (ctype_of c.args.ctype))) (λ u. declared (env_of c.args.env.now) (declarator_behind c.in-Array.inner) u) c.from_residual-in_err-length-in-Array.ensures (declared-Array (env_of c.args.env.now) c.args.d.now (ctype_of c.args.ctype) c.in-Array.inner c.in-Array.size c.in-Array.is) (names_on c.in_err-length-in-Array.field-0.0 (size_in (env_of c.args.env.now) (expr_behind c.in-Array.size)) (array_of (env_of c.args.env.now) c.args.d.now.at (ctype_of c.args.ctype)) c.in_err-length-in-Array.ensures.judged)
+pub declared-returns-in_err-length-in-Array : goal.declared-returns-in_err-length-in-Array
+declared-returns-in_err-length-in-Array t c = record {
+  judged = fails_on ctype_of c.from_residual-in_err-length-in-Array.result c.in_err-length-in-Array.field-0.0 (declared (env_of c.args.env.now) (declarator_of c.args.d.now) (ctype_of c.args.ctype)) (on (size_in (env_of c.args.env.now) (expr_behind c.in-Array.size)) (array_of (env_of c.args.env.now) c.args.d.now.at (ctype_of c.args.ctype))) (λ u. declared (env_of c.args.env.now) (declarator_behind c.in-Array.inner) u) c.from_residual-in_err-length-in-Array.ensures (declared-Array (env_of c.args.env.now) c.args.d.now (ctype_of c.args.ctype) c.in-Array.inner c.in-Array.size c.in-Array.is) (names_on c.in_err-length-in-Array.field-0.0 (size_in (env_of c.args.env.now) (expr_behind c.in-Array.size)) (array_of (env_of c.args.env.now) c.args.d.now.at (ctype_of c.args.ctype)) c.in_err-length-in-Array.ensures.judged);
+  kept = none_ok c.from_residual-in_err-length-in-Array.result _ c.from_residual-in_err-length-in-Array.ensures.0;
+}
 
-pub declared-returns-in_err-array-in-Array-clause-judged : goal.declared-returns-in_err-array-in-Array-clause-judged
-declared-returns-in_err-array-in-Array-clause-judged t c =
-    raised ctype_of _ c.from_residual-in_err-array-in-Array.result c.in_err-array-in-Array.field-0.0 c.from_residual-in_err-array-in-Array.ensures (named_on c.in_err-array-in-Array.field-0.0 (declared (env_of c.args.env.now) (declarator_of c.args.d.now) (ctype_of c.args.ctype)) (on (size_in (env_of c.args.env.now) (expr_behind c.in-Array.size)) (array_of (env_of c.args.env.now) c.args.d.now.at (ctype_of c.args.ctype))) (array_of (env_of c.size_in.new.env) c.args.d.now.at (ctype_of c.args.ctype) c.in_ok-length-in-Array.length) (λ u. declared (env_of c.args.env.now) (declarator_behind c.in-Array.inner) u) (declared-Array (env_of c.args.env.now) c.args.d.now (ctype_of c.args.ctype) c.in-Array.inner c.in-Array.size c.in-Array.is) ((λ i. array_of (env_of (c.in_ok-length-in-Array.ensures.kept i)) c.args.d.now.at (ctype_of c.args.ctype) c.in_ok-length-in-Array.length) ∙ ap (λ r. on r (array_of (env_of c.args.env.now) c.args.d.now.at (ctype_of c.args.ctype))) (sym c.in_ok-length-in-Array.ensures.judged)) c.in_err-array-in-Array.ensures)
+pub declared-returns-in_err-array-in-Array : goal.declared-returns-in_err-array-in-Array
+declared-returns-in_err-array-in-Array t c = record {
+  judged = raised ctype_of _ c.from_residual-in_err-array-in-Array.result c.in_err-array-in-Array.field-0.0 c.from_residual-in_err-array-in-Array.ensures (named_on c.in_err-array-in-Array.field-0.0 (declared (env_of c.args.env.now) (declarator_of c.args.d.now) (ctype_of c.args.ctype)) (on (size_in (env_of c.args.env.now) (expr_behind c.in-Array.size)) (array_of (env_of c.args.env.now) c.args.d.now.at (ctype_of c.args.ctype))) (array_of (env_of c.size_in.new.env) c.args.d.now.at (ctype_of c.args.ctype) c.in_ok-length-in-Array.length) (λ u. declared (env_of c.args.env.now) (declarator_behind c.in-Array.inner) u) (declared-Array (env_of c.args.env.now) c.args.d.now (ctype_of c.args.ctype) c.in-Array.inner c.in-Array.size c.in-Array.is) ((λ i. array_of (env_of (c.in_ok-length-in-Array.ensures.kept i)) c.args.d.now.at (ctype_of c.args.ctype) c.in_ok-length-in-Array.length) ∙ ap (λ r. on r (array_of (env_of c.args.env.now) c.args.d.now.at (ctype_of c.args.ctype))) (sym c.in_ok-length-in-Array.ensures.judged)) c.in_err-array-in-Array.ensures);
+  kept = none_ok c.from_residual-in_err-array-in-Array.result _ c.from_residual-in_err-array-in-Array.ensures.0;
+}
 
 pub declared-returns-in_ok-array-in-Array : goal.declared-returns-in_ok-array-in-Array
 declared-returns-in_ok-array-in-Array t c = record {
@@ -382,13 +368,17 @@ declared-returns-in_ok-array-in-Array t c = record {
   kept = kept_then c.declared_inside-in-Array.result c.declared_inside-in-Array.new.env c.size_in.new.env c.args.env.now c.declared_inside-in-Array.ensures.kept c.in_ok-length-in-Array.ensures.kept;
 }
 
-pub declared-returns-in_err-types-in-Function-clause-judged : goal.declared-returns-in_err-types-in-Function-clause-judged
-declared-returns-in_err-types-in-Function-clause-judged t c =
-    fails_on ctype_of c.from_residual-in_err-types-in-Function.result c.in_err-types-in-Function.field-0.0 (declared (env_of c.args.env.now) (declarator_of c.args.d.now) (ctype_of c.args.ctype)) (on (parameters (inside (env_of c.args.env.now)) 0 (params_of c.deref.result.now)) (function_of c.args.d.now.at (ctype_of c.args.ctype))) (λ u. declared (env_of c.args.env.now) (declarator_behind c.in-Function.inner) u) c.from_residual-in_err-types-in-Function.ensures (declared-Function (env_of c.args.env.now) c.args.d.now (ctype_of c.args.ctype) c.in-Function.inner c.in-Function.params c.deref.result.now c.in-Function.is c.deref.ensures.value) (names_on c.in_err-types-in-Function.field-0.0 (parameters (inside (env_of c.args.env.now)) 0 (params_of c.deref.result.now)) (function_of c.args.d.now.at (ctype_of c.args.ctype)) c.in_err-types-in-Function.ensures.judged)
+pub declared-returns-in_err-types-in-Function : goal.declared-returns-in_err-types-in-Function
+declared-returns-in_err-types-in-Function t c = record {
+  judged = fails_on ctype_of c.from_residual-in_err-types-in-Function.result c.in_err-types-in-Function.field-0.0 (declared (env_of c.args.env.now) (declarator_of c.args.d.now) (ctype_of c.args.ctype)) (on (parameters (inside (env_of c.args.env.now)) 0 (params_of c.deref.result.now)) (function_of c.args.d.now.at (ctype_of c.args.ctype))) (λ u. declared (env_of c.args.env.now) (declarator_behind c.in-Function.inner) u) c.from_residual-in_err-types-in-Function.ensures (declared-Function (env_of c.args.env.now) c.args.d.now (ctype_of c.args.ctype) c.in-Function.inner c.in-Function.params c.deref.result.now c.in-Function.is c.deref.ensures.value) (names_on c.in_err-types-in-Function.field-0.0 (parameters (inside (env_of c.args.env.now)) 0 (params_of c.deref.result.now)) (function_of c.args.d.now.at (ctype_of c.args.ctype)) c.in_err-types-in-Function.ensures.judged);
+  kept = none_ok c.from_residual-in_err-types-in-Function.result _ c.from_residual-in_err-types-in-Function.ensures.0;
+}
 
-pub declared-returns-in_err-function-in-Function-clause-judged : goal.declared-returns-in_err-function-in-Function-clause-judged
-declared-returns-in_err-function-in-Function-clause-judged t c =
-    raised ctype_of _ c.from_residual-in_err-function-in-Function.result c.in_err-function-in-Function.field-0.0 c.from_residual-in_err-function-in-Function.ensures (named_on c.in_err-function-in-Function.field-0.0 (declared (env_of c.args.env.now) (declarator_of c.args.d.now) (ctype_of c.args.ctype)) (on (parameters (inside (env_of c.args.env.now)) 0 (params_of c.deref.result.now)) (function_of c.args.d.now.at (ctype_of c.args.ctype))) (function_of c.args.d.now.at (ctype_of c.args.ctype) (types_of c.in_ok-types-in-Function.types.items)) (λ u. declared (env_of c.args.env.now) (declarator_behind c.in-Function.inner) u) (declared-Function (env_of c.args.env.now) c.args.d.now (ctype_of c.args.ctype) c.in-Function.inner c.in-Function.params c.deref.result.now c.in-Function.is c.deref.ensures.value) (ap (λ r. on r (function_of c.args.d.now.at (ctype_of c.args.ctype))) (sym c.in_ok-types-in-Function.ensures.judged)) c.in_err-function-in-Function.ensures)
+pub declared-returns-in_err-function-in-Function : goal.declared-returns-in_err-function-in-Function
+declared-returns-in_err-function-in-Function t c = record {
+  judged = raised ctype_of _ c.from_residual-in_err-function-in-Function.result c.in_err-function-in-Function.field-0.0 c.from_residual-in_err-function-in-Function.ensures (named_on c.in_err-function-in-Function.field-0.0 (declared (env_of c.args.env.now) (declarator_of c.args.d.now) (ctype_of c.args.ctype)) (on (parameters (inside (env_of c.args.env.now)) 0 (params_of c.deref.result.now)) (function_of c.args.d.now.at (ctype_of c.args.ctype))) (function_of c.args.d.now.at (ctype_of c.args.ctype) (types_of c.in_ok-types-in-Function.types.items)) (λ u. declared (env_of c.args.env.now) (declarator_behind c.in-Function.inner) u) (declared-Function (env_of c.args.env.now) c.args.d.now (ctype_of c.args.ctype) c.in-Function.inner c.in-Function.params c.deref.result.now c.in-Function.is c.deref.ensures.value) (ap (λ r. on r (function_of c.args.d.now.at (ctype_of c.args.ctype))) (sym c.in_ok-types-in-Function.ensures.judged)) c.in_err-function-in-Function.ensures);
+  kept = none_ok c.from_residual-in_err-function-in-Function.result _ c.from_residual-in_err-function-in-Function.ensures.0;
+}
 
 pub declared-returns-in_ok-function-in-Function : goal.declared-returns-in_ok-function-in-Function
 declared-returns-in_ok-function-in-Function t c = record {
@@ -396,9 +386,11 @@ declared-returns-in_ok-function-in-Function t c = record {
   kept = kept_then c.declared_inside-in-Function.result c.declared_inside-in-Function.new.env c.parameters_apart.new.env c.args.env.now c.declared_inside-in-Function.ensures.kept c.in_ok-types-in-Function.ensures.kept;
 }
 
-pub size_in-returns-in_err-given-in-Some-clause-judged : goal.size_in-returns-in_err-given-in-Some-clause-judged
-size_in-returns-in_err-given-in-Some-clause-judged t c =
-    fails_on (λ n. n) c.from_residual.result c.in_err-given-in-Some.field-0.0 (size_in (env_of c.args.env.now) (expr_behind c.args.size.now)) (folded_value (env_of c.args.env.now) (expr_of c.deref.result.now)) (array_size (place_of (expr_of c.deref.result.now))) c.from_residual.ensures (ap (λ o. size_in (env_of c.args.env.now) (expr_behind o)) c.in-Some.is ∙ ap (λ y. on (folded_value (env_of c.args.env.now) (expr_of y)) (array_size (place_of (expr_of y)))) (sym c.deref.ensures)) c.in_err-given-in-Some.ensures.judged
+pub size_in-returns-in_err-given-in-Some : goal.size_in-returns-in_err-given-in-Some
+size_in-returns-in_err-given-in-Some t c = record {
+  judged = fails_on (λ n. n) c.from_residual.result c.in_err-given-in-Some.field-0.0 (size_in (env_of c.args.env.now) (expr_behind c.args.size.now)) (folded_value (env_of c.args.env.now) (expr_of c.deref.result.now)) (array_size (place_of (expr_of c.deref.result.now))) c.from_residual.ensures (ap (λ o. size_in (env_of c.args.env.now) (expr_behind o)) c.in-Some.is ∙ ap (λ y. on (folded_value (env_of c.args.env.now) (expr_of y)) (array_size (place_of (expr_of y)))) (sym c.deref.ensures)) c.in_err-given-in-Some.ensures.judged;
+  kept = none_ok c.from_residual.result _ c.from_residual.ensures.0;
+}
 
 pub size_in-returns-in_ok-given-in-Some : goal.size_in-returns-in_ok-given-in-Some
 size_in-returns-in_ok-given-in-Some t c = record {
@@ -406,9 +398,11 @@ size_in-returns-in_ok-given-in-Some t c = record {
   kept = on_ok c.array_size.result _ (c.in_ok-given-in-Some.ensures.kept);
 }
 
-pub parameter_type-returns-in_err-ctype-clause-judged : goal.parameter_type-returns-in_err-ctype-clause-judged
-parameter_type-returns-in_err-ctype-clause-judged t c =
-    fails_on ctype_of c.from_residual.result c.in_err-ctype.field-0.0 (type_of_param (env_of c.args.env.now) c.args.p.now) (on (type_of_spec (env_of c.args.env.now) (out-Param c.args.p.now).at (spec_of (out-Param c.args.p.now).spec)) (declared (env_of c.args.env.now) (declarator_in (out-Param c.args.p.now).declarator))) (parameter_of (place_or (out-Param c.args.p.now).at (declarator_in (out-Param c.args.p.now).declarator))) c.from_residual.ensures refl c.in_err-ctype.ensures.judged
+pub parameter_type-returns-in_err-ctype : goal.parameter_type-returns-in_err-ctype
+parameter_type-returns-in_err-ctype t c = record {
+  judged = fails_on ctype_of c.from_residual.result c.in_err-ctype.field-0.0 (type_of_param (env_of c.args.env.now) c.args.p.now) (on (type_of_spec (env_of c.args.env.now) (out-Param c.args.p.now).at (spec_of (out-Param c.args.p.now).spec)) (declared (env_of c.args.env.now) (declarator_in (out-Param c.args.p.now).declarator))) (parameter_of (place_or (out-Param c.args.p.now).at (declarator_in (out-Param c.args.p.now).declarator))) c.from_residual.ensures refl c.in_err-ctype.ensures.judged;
+  kept = none_ok c.from_residual.result _ c.from_residual.ensures.0;
+}
 
 pub parameter_type-returns : goal.parameter_type-returns
 parameter_type-returns t c = record {
@@ -416,13 +410,17 @@ parameter_type-returns t c = record {
   kept = on_ok c.parameter_of.result _ (c.in_ok-ctype.ensures.kept);
 }
 
-pub parameters-returns-in_err-ctype-clause-judged : goal.parameters-returns-in_err-ctype-clause-judged
-parameters-returns-in_err-ctype-clause-judged t c =
-    raised (λ v. types_of v.items) _ c.from_residual.result c.in_err-ctype.field-0.0 c.from_residual.ensures (type_fails c.in_err-ctype.field-0.0 (env_of c.loop-p.env) c.args.params.now c.loop-p.p-index 0 c.p-item.result c.loop-p.types.items (parameters (env_of c.args.env.now) 0 (params_of c.args.params.now)) c.loop-p-test.true c.p-item.is c.loop-p.invariant.found c.in_err-ctype.ensures.judged)
+pub parameters-returns-in_err-ctype : goal.parameters-returns-in_err-ctype
+parameters-returns-in_err-ctype t c = record {
+  judged = raised (λ v. types_of v.items) _ c.from_residual.result c.in_err-ctype.field-0.0 c.from_residual.ensures (type_fails c.in_err-ctype.field-0.0 (env_of c.loop-p.env) c.args.params.now c.loop-p.p-index 0 c.p-item.result c.loop-p.types.items (parameters (env_of c.args.env.now) 0 (params_of c.args.params.now)) c.loop-p-test.true c.p-item.is c.loop-p.invariant.found c.in_err-ctype.ensures.judged);
+  kept = none_ok c.from_residual.result _ c.from_residual.ensures.0;
+}
 
-pub parameters-returns-in_err-declare_parameter-clause-judged : goal.parameters-returns-in_err-declare_parameter-clause-judged
-parameters-returns-in_err-declare_parameter-clause-judged t c =
-    raised (λ v. types_of v.items) _ c.from_residual-in_err-declare_parameter.result c.in_err-declare_parameter.field-0.0 c.from_residual-in_err-declare_parameter.ensures (name_fails c.in_err-declare_parameter.field-0.0 (env_of c.loop-p.env) c.args.params.now c.loop-p.p-index 0 c.p-item.result c.loop-p.types.items c.in_ok-ctype.ctype (parameters (env_of c.args.env.now) 0 (params_of c.args.params.now)) c.loop-p-test.true c.p-item.is c.loop-p.invariant.found c.in_ok-ctype.ensures.judged (subst (λ r. Names c.in_err-declare_parameter.field-0.0 (faults r)) (λ i. with_name_demands (env_of (c.in_ok-ctype.ensures.kept i)) (name_of_param c.p-item.result) (fine (ctype_of c.in_ok-ctype.ctype))) c.in_err-declare_parameter.ensures.judged))
+pub parameters-returns-in_err-declare_parameter : goal.parameters-returns-in_err-declare_parameter
+parameters-returns-in_err-declare_parameter t c = record {
+  judged = raised (λ v. types_of v.items) _ c.from_residual-in_err-declare_parameter.result c.in_err-declare_parameter.field-0.0 c.from_residual-in_err-declare_parameter.ensures (name_fails c.in_err-declare_parameter.field-0.0 (env_of c.loop-p.env) c.args.params.now c.loop-p.p-index 0 c.p-item.result c.loop-p.types.items c.in_ok-ctype.ctype (parameters (env_of c.args.env.now) 0 (params_of c.args.params.now)) c.loop-p-test.true c.p-item.is c.loop-p.invariant.found c.in_ok-ctype.ensures.judged (subst (λ r. Names c.in_err-declare_parameter.field-0.0 (faults r)) (λ i. with_name_demands (env_of (c.in_ok-ctype.ensures.kept i)) (name_of_param c.p-item.result) (fine (ctype_of c.in_ok-ctype.ctype))) c.in_err-declare_parameter.ensures.judged));
+  kept = none_ok c.from_residual-in_err-declare_parameter.result _ c.from_residual-in_err-declare_parameter.ensures.0;
+}
 
 pub parameters-loop-p-preserved : goal.parameters-loop-p-preserved
 parameters-loop-p-preserved t c =

@@ -20,7 +20,7 @@ use Rattle.c_check_scopes.specs.View.{before_of, env_of}
 use Rattle.c_check_statements.specs.Listed.{after_item, behind_item, item_alone, labels_in, stmts_in}
 use Rattle.c_check_statements.specs.Ruled.{after_for, for_inside, group_behind, tested}
 use Rattle.c_check_statements.specs.Two.{tested_of}
-use Rattle.c_check_expressions.proofs.Exits.{fails_first, fails_first_of, fails_on, fails_second, fails_second_of, fails_third_of, named_first, on_ok, two_ended}
+use Rattle.c_check_expressions.proofs.Exits.{fails_first, fails_first_of, fails_on, fails_second, fails_second_of, fails_third_of, named_first, none_ok, on_ok, two_ended}
 use Rattle.c_check_statements.proofs.HavingLemmas.{own_have, rest_have}
 use Rattle.c_check_statements.proofs.NodeLemmas.{after_do, after_else, after_parts, after_switch, after_while, block_seen, declared_as, declared_deeper, declared_more, found_as, if_fails, if_seen, numbered_alone, ok_as, switch_seen}
 use Rattle.c_check_statements.proofs.PartLemmas.{names_of_two, two_as}
@@ -36,10 +36,14 @@ use Rattle.c_syntax.specs.WritesUnit.{block_items_of, else_behind, groups_of, st
 use Rattle.c_tree.specs.Tree as typed
 use Rattle.c_tree.specs.View.{expr_of as expr_seen}
 
-pub block_statement-returns-in_err-laid-clause-judged : goal.block_statement-returns-in_err-laid-clause-judged
-block_statement-returns-in_err-laid-clause-judged t c =
-    raised statement_tree_of (stmt (env_of c.args.env.now) (around_of c.args.around.now) (before_of c.args.before.now) (next_of c.args.next.now) (block c.args.at (block_items_of c.args.items.now))) c.from_residual-in_err-laid.result c.in_err-laid.field-0.0 c.from_residual-in_err-laid.ensures
-    (names_on c.in_err-laid.field-0.0 (items_of_block (inside (env_of c.args.env.now)) (around_of c.args.around.now) (before_of c.args.before.now) (next_of c.args.next.now) (block_items_of c.args.items.now)) (λ p. fine (with_tree p (typed.block p.tree))) (subst (λ v. Names c.in_err-laid.field-0.0 (faults (items_of_block v (around_of c.args.around.now) (before_of c.args.before.now) (next_of c.args.next.now) (block_items_of c.args.items.now)))) (ap env_of c.in_ok-depth.ensures.entered) c.in_err-laid.ensures.judged))
+pub block_statement-returns-in_err-laid : goal.block_statement-returns-in_err-laid
+block_statement-returns-in_err-laid t c = record {
+  judged = raised statement_tree_of (stmt (env_of c.args.env.now) (around_of c.args.around.now) (before_of c.args.before.now) (next_of c.args.next.now) (block c.args.at (block_items_of c.args.items.now))) c.from_residual-in_err-laid.result c.in_err-laid.field-0.0 c.from_residual-in_err-laid.ensures
+      (names_on c.in_err-laid.field-0.0 (items_of_block (inside (env_of c.args.env.now)) (around_of c.args.around.now) (before_of c.args.before.now) (next_of c.args.next.now) (block_items_of c.args.items.now)) (λ p. fine (with_tree p (typed.block p.tree))) (subst (λ v. Names c.in_err-laid.field-0.0 (faults (items_of_block v (around_of c.args.around.now) (before_of c.args.before.now) (next_of c.args.next.now) (block_items_of c.args.items.now)))) (ap env_of c.in_ok-depth.ensures.entered) c.in_err-laid.ensures.judged));
+  counted = none_ok c.from_residual-in_err-laid.result _ c.from_residual-in_err-laid.ensures.0;
+  numbered = none_ok c.from_residual-in_err-laid.result _ c.from_residual-in_err-laid.ensures.0;
+  kept = none_ok c.from_residual-in_err-laid.result _ c.from_residual-in_err-laid.ensures.0;
+}
 
 pub block_statement-returns : goal.block_statement-returns
 block_statement-returns t c = record {
@@ -49,13 +53,21 @@ block_statement-returns t c = record {
   kept = on_ok c.found.result _ (c.leave_block.ensures c.args.env.now (declared_deeper c.args.env.now c.items_of_block.new.env c.enter_block.new.env c.in_ok-depth.ensures.entered c.in_ok-laid.ensures.kept) (sym c.len-count.ensures) (sym c.in_ok-depth.ensures.before));
 }
 
-pub tested-returns-in_err-condition-clause-judged : goal.tested-returns-in_err-condition-clause-judged
-tested-returns-in_err-condition-clause-judged t c =
-    fails_first tested_of c.from_residual.result c.in_err-condition.field-0.0 (tested (env_of c.args.env.now) (around_of c.args.around.now) (before_of c.args.before.now) (next_of c.args.next.now) c.args.at (expr_of c.args.test.now) (stmt_of c.args.s.now)) (condition_at c.args.at (value (env_of c.args.env.now) (before_of c.args.before.now) (expr_of c.args.test.now))) (stmt (env_of c.args.env.now) (around_of c.args.around.now) (after (before_of c.args.before.now) (expr_of c.args.test.now)) (next_of c.args.next.now) (stmt_of c.args.s.now)) (λ x y. fine (record { first = x; second = y })) c.from_residual.ensures refl c.in_err-condition.ensures.judged
+pub tested-returns-in_err-condition : goal.tested-returns-in_err-condition
+tested-returns-in_err-condition t c = record {
+  judged = fails_first tested_of c.from_residual.result c.in_err-condition.field-0.0 (tested (env_of c.args.env.now) (around_of c.args.around.now) (before_of c.args.before.now) (next_of c.args.next.now) c.args.at (expr_of c.args.test.now) (stmt_of c.args.s.now)) (condition_at c.args.at (value (env_of c.args.env.now) (before_of c.args.before.now) (expr_of c.args.test.now))) (stmt (env_of c.args.env.now) (around_of c.args.around.now) (after (before_of c.args.before.now) (expr_of c.args.test.now)) (next_of c.args.next.now) (stmt_of c.args.s.now)) (λ x y. fine (record { first = x; second = y })) c.from_residual.ensures refl c.in_err-condition.ensures.judged;
+  counted = none_ok c.from_residual.result _ c.from_residual.ensures.0;
+  numbered = none_ok c.from_residual.result _ c.from_residual.ensures.0;
+  kept = none_ok c.from_residual.result _ c.from_residual.ensures.0;
+}
 
-pub tested-returns-in_err-laid-clause-judged : goal.tested-returns-in_err-laid-clause-judged
-tested-returns-in_err-laid-clause-judged t c =
-    fails_second tested_of c.from_residual-in_err-laid.result c.in_err-laid.field-0.0 (tested (env_of c.args.env.now) (around_of c.args.around.now) (before_of c.args.before.now) (next_of c.args.next.now) c.args.at (expr_of c.args.test.now) (stmt_of c.args.s.now)) (condition_at c.args.at (value (env_of c.args.env.now) (before_of c.args.before.now) (expr_of c.args.test.now))) (stmt (env_of c.args.env.now) (around_of c.args.around.now) (after (before_of c.args.before.now) (expr_of c.args.test.now)) (next_of c.args.next.now) (stmt_of c.args.s.now)) (stmt (env_of c.condition_of.new.env) (around_of c.args.around.now) (before_of c.condition_of.new.before) (next_of c.args.next.now) (stmt_of c.args.s.now)) (λ x y. fine (record { first = x; second = y })) c.from_residual-in_err-laid.ensures refl (λ i. stmt (env_of (c.in_ok-condition.ensures.kept i)) (around_of c.args.around.now) (c.in_ok-condition.ensures.counted i) (next_of c.args.next.now) (stmt_of c.args.s.now)) c.in_err-laid.ensures.judged
+pub tested-returns-in_err-laid : goal.tested-returns-in_err-laid
+tested-returns-in_err-laid t c = record {
+  judged = fails_second tested_of c.from_residual-in_err-laid.result c.in_err-laid.field-0.0 (tested (env_of c.args.env.now) (around_of c.args.around.now) (before_of c.args.before.now) (next_of c.args.next.now) c.args.at (expr_of c.args.test.now) (stmt_of c.args.s.now)) (condition_at c.args.at (value (env_of c.args.env.now) (before_of c.args.before.now) (expr_of c.args.test.now))) (stmt (env_of c.args.env.now) (around_of c.args.around.now) (after (before_of c.args.before.now) (expr_of c.args.test.now)) (next_of c.args.next.now) (stmt_of c.args.s.now)) (stmt (env_of c.condition_of.new.env) (around_of c.args.around.now) (before_of c.condition_of.new.before) (next_of c.args.next.now) (stmt_of c.args.s.now)) (λ x y. fine (record { first = x; second = y })) c.from_residual-in_err-laid.ensures refl (λ i. stmt (env_of (c.in_ok-condition.ensures.kept i)) (around_of c.args.around.now) (c.in_ok-condition.ensures.counted i) (next_of c.args.next.now) (stmt_of c.args.s.now)) c.in_err-laid.ensures.judged;
+  counted = none_ok c.from_residual-in_err-laid.result _ c.from_residual-in_err-laid.ensures.0;
+  numbered = none_ok c.from_residual-in_err-laid.result _ c.from_residual-in_err-laid.ensures.0;
+  kept = none_ok c.from_residual-in_err-laid.result _ c.from_residual-in_err-laid.ensures.0;
+}
 
 pub tested-returns : goal.tested-returns
 tested-returns t c = record {
@@ -65,9 +77,13 @@ tested-returns t c = record {
   kept = c.in_ok-laid.ensures.kept ∙ c.in_ok-condition.ensures.kept;
 }
 
-pub else_part-returns-in_err-no-clause-judged : goal.else_part-returns-in_err-no-clause-judged
-else_part-returns-in_err-no-clause-judged t c =
-    fails_on statement_tree_of c.from_residual.result c.in_err-no.field-0.0 (on (stmt (env_of c.args.env.now) (around_of c.args.around.now) (before_of c.args.before.now) (next_of c.args.next.now) (stmt_of c.args.s.now)) (λ q. fine (joined (statement_tree_of c.args.yes) q (typed.if_else (expr_seen c.args.test) (statement_tree_of c.args.yes).tree q.tree)))) (stmt (env_of c.args.env.now) (around_of c.args.around.now) (before_of c.args.before.now) (next_of c.args.next.now) (stmt_of c.args.s.now)) (λ q. fine (joined (statement_tree_of c.args.yes) q (typed.if_else (expr_seen c.args.test) (statement_tree_of c.args.yes).tree q.tree))) c.from_residual.ensures refl c.in_err-no.ensures.judged
+pub else_part-returns-in_err-no : goal.else_part-returns-in_err-no
+else_part-returns-in_err-no t c = record {
+  judged = fails_on statement_tree_of c.from_residual.result c.in_err-no.field-0.0 (on (stmt (env_of c.args.env.now) (around_of c.args.around.now) (before_of c.args.before.now) (next_of c.args.next.now) (stmt_of c.args.s.now)) (λ q. fine (joined (statement_tree_of c.args.yes) q (typed.if_else (expr_seen c.args.test) (statement_tree_of c.args.yes).tree q.tree)))) (stmt (env_of c.args.env.now) (around_of c.args.around.now) (before_of c.args.before.now) (next_of c.args.next.now) (stmt_of c.args.s.now)) (λ q. fine (joined (statement_tree_of c.args.yes) q (typed.if_else (expr_seen c.args.test) (statement_tree_of c.args.yes).tree q.tree))) c.from_residual.ensures refl c.in_err-no.ensures.judged;
+  counted = none_ok c.from_residual.result _ c.from_residual.ensures.0;
+  numbered = none_ok c.from_residual.result _ c.from_residual.ensures.0;
+  kept = none_ok c.from_residual.result _ c.from_residual.ensures.0;
+}
 
 pub else_part-returns : goal.else_part-returns
 else_part-returns t c = record {
@@ -77,9 +93,13 @@ else_part-returns t c = record {
   kept = on_ok c.found.result _ c.in_ok-no.ensures.kept;
 }
 
-pub while_statement-returns-in_err-parts-clause-judged : goal.while_statement-returns-in_err-parts-clause-judged
-while_statement-returns-in_err-parts-clause-judged t c =
-    raised statement_tree_of (stmt (env_of c.args.env.now) (around_of c.args.around.now) (before_of c.args.before.now) (next_of c.args.next.now) (while_loop c.args.at (expr_of c.args.test.now) (stmt_of c.args.body.now))) c.from_residual.result c.in_err-parts.field-0.0 c.from_residual.ensures (names_of_two c.in_err-parts.field-0.0 (condition_at c.args.at (value (env_of c.args.env.now) (before_of c.args.before.now) (expr_of c.args.test.now))) (stmt (env_of c.args.env.now) (in_loop (around_of c.args.around.now)) (after (before_of c.args.before.now) (expr_of c.args.test.now)) (next_of c.args.next.now) (stmt_of c.args.body.now)) (λ d p. record { first = d; second = p }) (λ d p. with_tree p (typed.while_loop d p.tree)) (subst (λ a. Names c.in_err-parts.field-0.0 (faults (tested (env_of c.args.env.now) a (before_of c.args.before.now) (next_of c.args.next.now) c.args.at (expr_of c.args.test.now) (stmt_of c.args.body.now)))) c.in_loop-inner.ensures c.in_err-parts.ensures.judged))
+pub while_statement-returns-in_err-parts : goal.while_statement-returns-in_err-parts
+while_statement-returns-in_err-parts t c = record {
+  judged = raised statement_tree_of (stmt (env_of c.args.env.now) (around_of c.args.around.now) (before_of c.args.before.now) (next_of c.args.next.now) (while_loop c.args.at (expr_of c.args.test.now) (stmt_of c.args.body.now))) c.from_residual.result c.in_err-parts.field-0.0 c.from_residual.ensures (names_of_two c.in_err-parts.field-0.0 (condition_at c.args.at (value (env_of c.args.env.now) (before_of c.args.before.now) (expr_of c.args.test.now))) (stmt (env_of c.args.env.now) (in_loop (around_of c.args.around.now)) (after (before_of c.args.before.now) (expr_of c.args.test.now)) (next_of c.args.next.now) (stmt_of c.args.body.now)) (λ d p. record { first = d; second = p }) (λ d p. with_tree p (typed.while_loop d p.tree)) (subst (λ a. Names c.in_err-parts.field-0.0 (faults (tested (env_of c.args.env.now) a (before_of c.args.before.now) (next_of c.args.next.now) c.args.at (expr_of c.args.test.now) (stmt_of c.args.body.now)))) c.in_loop-inner.ensures c.in_err-parts.ensures.judged));
+  counted = none_ok c.from_residual.result _ c.from_residual.ensures.0;
+  numbered = none_ok c.from_residual.result _ c.from_residual.ensures.0;
+  kept = none_ok c.from_residual.result _ c.from_residual.ensures.0;
+}
 
 pub while_statement-returns : goal.while_statement-returns
 while_statement-returns t c = record {
@@ -89,13 +109,21 @@ while_statement-returns t c = record {
   kept = on_ok c.found.result _ c.in_ok-parts.ensures.kept;
 }
 
-pub do_statement-returns-in_err-laid-clause-judged : goal.do_statement-returns-in_err-laid-clause-judged
-do_statement-returns-in_err-laid-clause-judged t c =
-    raised statement_tree_of (stmt (env_of c.args.env.now) (around_of c.args.around.now) (before_of c.args.before.now) (next_of c.args.next.now) (do_loop c.args.at (stmt_of c.args.body.now) (expr_of c.args.test.now))) c.from_residual.result c.in_err-laid.field-0.0 c.from_residual.ensures (named_first c.in_err-laid.field-0.0 (stmt (env_of c.args.env.now) (around_of c.args.around.now) (before_of c.args.before.now) (next_of c.args.next.now) (do_loop c.args.at (stmt_of c.args.body.now) (expr_of c.args.test.now))) (stmt (env_of c.args.env.now) (in_loop (around_of c.args.around.now)) (before_of c.args.before.now) (next_of c.args.next.now) (stmt_of c.args.body.now)) (stmt (env_of c.args.env.now) (around_of c.in_loop-inner.result) (before_of c.args.before.now) (next_of c.args.next.now) (stmt_of c.args.body.now)) (condition_at c.args.at (value (env_of c.args.env.now) (after_stmt (env_of c.args.env.now) (before_of c.args.before.now) (next_of c.args.next.now) (stmt_of c.args.body.now)) (expr_of c.args.test.now))) (λ p d. fine (with_tree p (typed.do_loop p.tree d))) refl (λ i. stmt (env_of c.args.env.now) (c.in_loop-inner.ensures i) (before_of c.args.before.now) (next_of c.args.next.now) (stmt_of c.args.body.now)) c.in_err-laid.ensures.judged)
+pub do_statement-returns-in_err-laid : goal.do_statement-returns-in_err-laid
+do_statement-returns-in_err-laid t c = record {
+  judged = raised statement_tree_of (stmt (env_of c.args.env.now) (around_of c.args.around.now) (before_of c.args.before.now) (next_of c.args.next.now) (do_loop c.args.at (stmt_of c.args.body.now) (expr_of c.args.test.now))) c.from_residual.result c.in_err-laid.field-0.0 c.from_residual.ensures (named_first c.in_err-laid.field-0.0 (stmt (env_of c.args.env.now) (around_of c.args.around.now) (before_of c.args.before.now) (next_of c.args.next.now) (do_loop c.args.at (stmt_of c.args.body.now) (expr_of c.args.test.now))) (stmt (env_of c.args.env.now) (in_loop (around_of c.args.around.now)) (before_of c.args.before.now) (next_of c.args.next.now) (stmt_of c.args.body.now)) (stmt (env_of c.args.env.now) (around_of c.in_loop-inner.result) (before_of c.args.before.now) (next_of c.args.next.now) (stmt_of c.args.body.now)) (condition_at c.args.at (value (env_of c.args.env.now) (after_stmt (env_of c.args.env.now) (before_of c.args.before.now) (next_of c.args.next.now) (stmt_of c.args.body.now)) (expr_of c.args.test.now))) (λ p d. fine (with_tree p (typed.do_loop p.tree d))) refl (λ i. stmt (env_of c.args.env.now) (c.in_loop-inner.ensures i) (before_of c.args.before.now) (next_of c.args.next.now) (stmt_of c.args.body.now)) c.in_err-laid.ensures.judged);
+  counted = none_ok c.from_residual.result _ c.from_residual.ensures.0;
+  numbered = none_ok c.from_residual.result _ c.from_residual.ensures.0;
+  kept = none_ok c.from_residual.result _ c.from_residual.ensures.0;
+}
 
-pub do_statement-returns-in_err-condition-clause-judged : goal.do_statement-returns-in_err-condition-clause-judged
-do_statement-returns-in_err-condition-clause-judged t c =
-    fails_second statement_tree_of c.from_residual-in_err-condition.result c.in_err-condition.field-0.0 (stmt (env_of c.args.env.now) (around_of c.args.around.now) (before_of c.args.before.now) (next_of c.args.next.now) (do_loop c.args.at (stmt_of c.args.body.now) (expr_of c.args.test.now))) (stmt (env_of c.args.env.now) (in_loop (around_of c.args.around.now)) (before_of c.args.before.now) (next_of c.args.next.now) (stmt_of c.args.body.now)) (condition_at c.args.at (value (env_of c.args.env.now) (after_stmt (env_of c.args.env.now) (before_of c.args.before.now) (next_of c.args.next.now) (stmt_of c.args.body.now)) (expr_of c.args.test.now))) (condition_at c.args.at (value (env_of c.statement.new.env) (before_of c.statement.new.before) (expr_of c.args.test.now))) (λ p d. fine (with_tree p (typed.do_loop p.tree d))) c.from_residual-in_err-condition.ensures refl (λ i. condition_at c.args.at (value (env_of (c.in_ok-laid.ensures.kept i)) (c.in_ok-laid.ensures.counted i) (expr_of c.args.test.now))) c.in_err-condition.ensures.judged
+pub do_statement-returns-in_err-condition : goal.do_statement-returns-in_err-condition
+do_statement-returns-in_err-condition t c = record {
+  judged = fails_second statement_tree_of c.from_residual-in_err-condition.result c.in_err-condition.field-0.0 (stmt (env_of c.args.env.now) (around_of c.args.around.now) (before_of c.args.before.now) (next_of c.args.next.now) (do_loop c.args.at (stmt_of c.args.body.now) (expr_of c.args.test.now))) (stmt (env_of c.args.env.now) (in_loop (around_of c.args.around.now)) (before_of c.args.before.now) (next_of c.args.next.now) (stmt_of c.args.body.now)) (condition_at c.args.at (value (env_of c.args.env.now) (after_stmt (env_of c.args.env.now) (before_of c.args.before.now) (next_of c.args.next.now) (stmt_of c.args.body.now)) (expr_of c.args.test.now))) (condition_at c.args.at (value (env_of c.statement.new.env) (before_of c.statement.new.before) (expr_of c.args.test.now))) (λ p d. fine (with_tree p (typed.do_loop p.tree d))) c.from_residual-in_err-condition.ensures refl (λ i. condition_at c.args.at (value (env_of (c.in_ok-laid.ensures.kept i)) (c.in_ok-laid.ensures.counted i) (expr_of c.args.test.now))) c.in_err-condition.ensures.judged;
+  counted = none_ok c.from_residual-in_err-condition.result _ c.from_residual-in_err-condition.ensures.0;
+  numbered = none_ok c.from_residual-in_err-condition.result _ c.from_residual-in_err-condition.ensures.0;
+  kept = none_ok c.from_residual-in_err-condition.result _ c.from_residual-in_err-condition.ensures.0;
+}
 
 pub do_statement-returns : goal.do_statement-returns
 do_statement-returns t c = record {
@@ -105,9 +133,13 @@ do_statement-returns t c = record {
   kept = on_ok c.found.result _ (c.in_ok-condition.ensures.kept ∙ c.in_ok-laid.ensures.kept);
 }
 
-pub for_statement-returns-in_err-laid-clause-judged : goal.for_statement-returns-in_err-laid-clause-judged
-for_statement-returns-in_err-laid-clause-judged t c =
-    raised statement_tree_of (stmt (env_of c.args.env.now) (around_of c.args.around.now) (before_of c.args.before.now) (next_of c.args.next.now) (for_loop c.args.at (first_of_head c.args.first.now) (expr_behind c.args.test.now) (expr_behind c.args.step.now) (stmt_of c.args.body.now))) c.from_residual-in_err-laid.result c.in_err-laid.field-0.0 c.from_residual-in_err-laid.ensures (subst (λ v. Names c.in_err-laid.field-0.0 (faults (for_inside v (around_of c.args.around.now) (before_of c.args.before.now) (next_of c.args.next.now) c.args.at (first_of_head c.args.first.now) (expr_behind c.args.test.now) (expr_behind c.args.step.now) (stmt_of c.args.body.now)))) (ap env_of c.in_ok-depth.ensures.entered) c.in_err-laid.ensures.judged)
+pub for_statement-returns-in_err-laid : goal.for_statement-returns-in_err-laid
+for_statement-returns-in_err-laid t c = record {
+  judged = raised statement_tree_of (stmt (env_of c.args.env.now) (around_of c.args.around.now) (before_of c.args.before.now) (next_of c.args.next.now) (for_loop c.args.at (first_of_head c.args.first.now) (expr_behind c.args.test.now) (expr_behind c.args.step.now) (stmt_of c.args.body.now))) c.from_residual-in_err-laid.result c.in_err-laid.field-0.0 c.from_residual-in_err-laid.ensures (subst (λ v. Names c.in_err-laid.field-0.0 (faults (for_inside v (around_of c.args.around.now) (before_of c.args.before.now) (next_of c.args.next.now) c.args.at (first_of_head c.args.first.now) (expr_behind c.args.test.now) (expr_behind c.args.step.now) (stmt_of c.args.body.now)))) (ap env_of c.in_ok-depth.ensures.entered) c.in_err-laid.ensures.judged);
+  counted = none_ok c.from_residual-in_err-laid.result _ c.from_residual-in_err-laid.ensures.0;
+  numbered = none_ok c.from_residual-in_err-laid.result _ c.from_residual-in_err-laid.ensures.0;
+  kept = none_ok c.from_residual-in_err-laid.result _ c.from_residual-in_err-laid.ensures.0;
+}
 
 pub for_statement-returns : goal.for_statement-returns
 for_statement-returns t c = record {
@@ -117,17 +149,29 @@ for_statement-returns t c = record {
   kept = c.leave_block.ensures c.args.env.now (declared_deeper c.args.env.now c.for_parts.new.env c.enter_block.new.env c.in_ok-depth.ensures.entered c.in_ok-laid.ensures.kept) (sym c.len-count.ensures) (sym c.in_ok-depth.ensures.before);
 }
 
-pub for_parts-returns-in_err-head-clause-judged : goal.for_parts-returns-in_err-head-clause-judged
-for_parts-returns-in_err-head-clause-judged t c =
-    fails_first_of statement_tree_of c.from_residual.result c.in_err-head.field-0.0 (for_inside (env_of c.args.env.now) (around_of c.args.around.now) (before_of c.args.before.now) (next_of c.args.next.now) c.args.at (first_of_head c.args.first.now) (expr_behind c.args.test.now) (expr_behind c.args.step.now) (stmt_of c.args.body.now)) (first_of (env_of c.args.env.now) (before_of c.args.before.now) (next_of c.args.next.now) (first_of_head c.args.first.now)) (beside (test_of (behind_first (env_of c.args.env.now) (next_of c.args.next.now) (first_of_head c.args.first.now)) (after_first (env_of c.args.env.now) (before_of c.args.before.now) (next_of c.args.next.now) (first_of_head c.args.first.now)) c.args.at (expr_behind c.args.test.now)) (step_of (behind_first (env_of c.args.env.now) (next_of c.args.next.now) (first_of_head c.args.first.now)) (after_maybe (after_first (env_of c.args.env.now) (before_of c.args.before.now) (next_of c.args.next.now) (first_of_head c.args.first.now)) (expr_behind c.args.test.now)) (expr_behind c.args.step.now))) (stmt (behind_first (env_of c.args.env.now) (next_of c.args.next.now) (first_of_head c.args.first.now)) (in_loop (around_of c.args.around.now)) (after_maybe (after_maybe (after_first (env_of c.args.env.now) (before_of c.args.before.now) (next_of c.args.next.now) (first_of_head c.args.first.now)) (expr_behind c.args.test.now)) (expr_behind c.args.step.now)) (past_names (next_of c.args.next.now) (names_of_first (first_of_head c.args.first.now))) (stmt_of c.args.body.now)) (λ p tests q. fine (for_of p tests q)) c.from_residual.ensures refl c.in_err-head.ensures.judged
+pub for_parts-returns-in_err-head : goal.for_parts-returns-in_err-head
+for_parts-returns-in_err-head t c = record {
+  judged = fails_first_of statement_tree_of c.from_residual.result c.in_err-head.field-0.0 (for_inside (env_of c.args.env.now) (around_of c.args.around.now) (before_of c.args.before.now) (next_of c.args.next.now) c.args.at (first_of_head c.args.first.now) (expr_behind c.args.test.now) (expr_behind c.args.step.now) (stmt_of c.args.body.now)) (first_of (env_of c.args.env.now) (before_of c.args.before.now) (next_of c.args.next.now) (first_of_head c.args.first.now)) (beside (test_of (behind_first (env_of c.args.env.now) (next_of c.args.next.now) (first_of_head c.args.first.now)) (after_first (env_of c.args.env.now) (before_of c.args.before.now) (next_of c.args.next.now) (first_of_head c.args.first.now)) c.args.at (expr_behind c.args.test.now)) (step_of (behind_first (env_of c.args.env.now) (next_of c.args.next.now) (first_of_head c.args.first.now)) (after_maybe (after_first (env_of c.args.env.now) (before_of c.args.before.now) (next_of c.args.next.now) (first_of_head c.args.first.now)) (expr_behind c.args.test.now)) (expr_behind c.args.step.now))) (stmt (behind_first (env_of c.args.env.now) (next_of c.args.next.now) (first_of_head c.args.first.now)) (in_loop (around_of c.args.around.now)) (after_maybe (after_maybe (after_first (env_of c.args.env.now) (before_of c.args.before.now) (next_of c.args.next.now) (first_of_head c.args.first.now)) (expr_behind c.args.test.now)) (expr_behind c.args.step.now)) (past_names (next_of c.args.next.now) (names_of_first (first_of_head c.args.first.now))) (stmt_of c.args.body.now)) (λ p tests q. fine (for_of p tests q)) c.from_residual.ensures refl c.in_err-head.ensures.judged;
+  counted = none_ok c.from_residual.result _ c.from_residual.ensures.0;
+  numbered = none_ok c.from_residual.result _ c.from_residual.ensures.0;
+  kept = none_ok c.from_residual.result _ c.from_residual.ensures.0;
+}
 
-pub for_parts-returns-in_err-tests-clause-judged : goal.for_parts-returns-in_err-tests-clause-judged
-for_parts-returns-in_err-tests-clause-judged t c =
-    fails_second_of statement_tree_of c.from_residual-in_err-tests.result c.in_err-tests.field-0.0 (for_inside (env_of c.args.env.now) (around_of c.args.around.now) (before_of c.args.before.now) (next_of c.args.next.now) c.args.at (first_of_head c.args.first.now) (expr_behind c.args.test.now) (expr_behind c.args.step.now) (stmt_of c.args.body.now)) (first_of (env_of c.args.env.now) (before_of c.args.before.now) (next_of c.args.next.now) (first_of_head c.args.first.now)) (beside (test_of (behind_first (env_of c.args.env.now) (next_of c.args.next.now) (first_of_head c.args.first.now)) (after_first (env_of c.args.env.now) (before_of c.args.before.now) (next_of c.args.next.now) (first_of_head c.args.first.now)) c.args.at (expr_behind c.args.test.now)) (step_of (behind_first (env_of c.args.env.now) (next_of c.args.next.now) (first_of_head c.args.first.now)) (after_maybe (after_first (env_of c.args.env.now) (before_of c.args.before.now) (next_of c.args.next.now) (first_of_head c.args.first.now)) (expr_behind c.args.test.now)) (expr_behind c.args.step.now))) (beside (test_of (env_of c.first_of.new.env) (before_of c.first_of.new.before) c.args.at (expr_behind c.args.test.now)) (step_of (env_of c.first_of.new.env) (after_maybe (before_of c.first_of.new.before) (expr_behind c.args.test.now)) (expr_behind c.args.step.now))) (stmt (behind_first (env_of c.args.env.now) (next_of c.args.next.now) (first_of_head c.args.first.now)) (in_loop (around_of c.args.around.now)) (after_maybe (after_maybe (after_first (env_of c.args.env.now) (before_of c.args.before.now) (next_of c.args.next.now) (first_of_head c.args.first.now)) (expr_behind c.args.test.now)) (expr_behind c.args.step.now)) (past_names (next_of c.args.next.now) (names_of_first (first_of_head c.args.first.now))) (stmt_of c.args.body.now)) (λ p tests q. fine (for_of p tests q)) c.from_residual-in_err-tests.ensures refl (λ i. beside (test_of (c.in_ok-head.ensures.meant i) (c.in_ok-head.ensures.counted i) c.args.at (expr_behind c.args.test.now)) (step_of (c.in_ok-head.ensures.meant i) (after_maybe (c.in_ok-head.ensures.counted i) (expr_behind c.args.test.now)) (expr_behind c.args.step.now))) c.in_err-tests.ensures.judged
+pub for_parts-returns-in_err-tests : goal.for_parts-returns-in_err-tests
+for_parts-returns-in_err-tests t c = record {
+  judged = fails_second_of statement_tree_of c.from_residual-in_err-tests.result c.in_err-tests.field-0.0 (for_inside (env_of c.args.env.now) (around_of c.args.around.now) (before_of c.args.before.now) (next_of c.args.next.now) c.args.at (first_of_head c.args.first.now) (expr_behind c.args.test.now) (expr_behind c.args.step.now) (stmt_of c.args.body.now)) (first_of (env_of c.args.env.now) (before_of c.args.before.now) (next_of c.args.next.now) (first_of_head c.args.first.now)) (beside (test_of (behind_first (env_of c.args.env.now) (next_of c.args.next.now) (first_of_head c.args.first.now)) (after_first (env_of c.args.env.now) (before_of c.args.before.now) (next_of c.args.next.now) (first_of_head c.args.first.now)) c.args.at (expr_behind c.args.test.now)) (step_of (behind_first (env_of c.args.env.now) (next_of c.args.next.now) (first_of_head c.args.first.now)) (after_maybe (after_first (env_of c.args.env.now) (before_of c.args.before.now) (next_of c.args.next.now) (first_of_head c.args.first.now)) (expr_behind c.args.test.now)) (expr_behind c.args.step.now))) (beside (test_of (env_of c.first_of.new.env) (before_of c.first_of.new.before) c.args.at (expr_behind c.args.test.now)) (step_of (env_of c.first_of.new.env) (after_maybe (before_of c.first_of.new.before) (expr_behind c.args.test.now)) (expr_behind c.args.step.now))) (stmt (behind_first (env_of c.args.env.now) (next_of c.args.next.now) (first_of_head c.args.first.now)) (in_loop (around_of c.args.around.now)) (after_maybe (after_maybe (after_first (env_of c.args.env.now) (before_of c.args.before.now) (next_of c.args.next.now) (first_of_head c.args.first.now)) (expr_behind c.args.test.now)) (expr_behind c.args.step.now)) (past_names (next_of c.args.next.now) (names_of_first (first_of_head c.args.first.now))) (stmt_of c.args.body.now)) (λ p tests q. fine (for_of p tests q)) c.from_residual-in_err-tests.ensures refl (λ i. beside (test_of (c.in_ok-head.ensures.meant i) (c.in_ok-head.ensures.counted i) c.args.at (expr_behind c.args.test.now)) (step_of (c.in_ok-head.ensures.meant i) (after_maybe (c.in_ok-head.ensures.counted i) (expr_behind c.args.test.now)) (expr_behind c.args.step.now))) c.in_err-tests.ensures.judged;
+  counted = none_ok c.from_residual-in_err-tests.result _ c.from_residual-in_err-tests.ensures.0;
+  numbered = none_ok c.from_residual-in_err-tests.result _ c.from_residual-in_err-tests.ensures.0;
+  kept = none_ok c.from_residual-in_err-tests.result _ c.from_residual-in_err-tests.ensures.0;
+}
 
-pub for_parts-returns-in_err-laid-clause-judged : goal.for_parts-returns-in_err-laid-clause-judged
-for_parts-returns-in_err-laid-clause-judged t c =
-    fails_third_of statement_tree_of c.from_residual-in_err-laid.result c.in_err-laid.field-0.0 (for_inside (env_of c.args.env.now) (around_of c.args.around.now) (before_of c.args.before.now) (next_of c.args.next.now) c.args.at (first_of_head c.args.first.now) (expr_behind c.args.test.now) (expr_behind c.args.step.now) (stmt_of c.args.body.now)) (first_of (env_of c.args.env.now) (before_of c.args.before.now) (next_of c.args.next.now) (first_of_head c.args.first.now)) (beside (test_of (behind_first (env_of c.args.env.now) (next_of c.args.next.now) (first_of_head c.args.first.now)) (after_first (env_of c.args.env.now) (before_of c.args.before.now) (next_of c.args.next.now) (first_of_head c.args.first.now)) c.args.at (expr_behind c.args.test.now)) (step_of (behind_first (env_of c.args.env.now) (next_of c.args.next.now) (first_of_head c.args.first.now)) (after_maybe (after_first (env_of c.args.env.now) (before_of c.args.before.now) (next_of c.args.next.now) (first_of_head c.args.first.now)) (expr_behind c.args.test.now)) (expr_behind c.args.step.now))) (stmt (behind_first (env_of c.args.env.now) (next_of c.args.next.now) (first_of_head c.args.first.now)) (in_loop (around_of c.args.around.now)) (after_maybe (after_maybe (after_first (env_of c.args.env.now) (before_of c.args.before.now) (next_of c.args.next.now) (first_of_head c.args.first.now)) (expr_behind c.args.test.now)) (expr_behind c.args.step.now)) (past_names (next_of c.args.next.now) (names_of_first (first_of_head c.args.first.now))) (stmt_of c.args.body.now)) (stmt (env_of c.tests_of.new.env) (around_of c.in_loop-inner.result) (before_of c.tests_of.new.before) (next_of c.first_of.new.next) (stmt_of c.args.body.now)) (λ p tests q. fine (for_of p tests q)) c.from_residual-in_err-laid.ensures refl (λ i. stmt ((ap env_of c.in_ok-tests.ensures.kept ∙ c.in_ok-head.ensures.meant) i) (c.in_loop-inner.ensures i) ((c.in_ok-tests.ensures.counted ∙ ap (λ b. after_maybe (after_maybe b (expr_behind c.args.test.now)) (expr_behind c.args.step.now)) c.in_ok-head.ensures.counted) i) (c.in_ok-head.ensures.numbered i) (stmt_of c.args.body.now)) c.in_err-laid.ensures.judged
+pub for_parts-returns-in_err-laid : goal.for_parts-returns-in_err-laid
+for_parts-returns-in_err-laid t c = record {
+  judged = fails_third_of statement_tree_of c.from_residual-in_err-laid.result c.in_err-laid.field-0.0 (for_inside (env_of c.args.env.now) (around_of c.args.around.now) (before_of c.args.before.now) (next_of c.args.next.now) c.args.at (first_of_head c.args.first.now) (expr_behind c.args.test.now) (expr_behind c.args.step.now) (stmt_of c.args.body.now)) (first_of (env_of c.args.env.now) (before_of c.args.before.now) (next_of c.args.next.now) (first_of_head c.args.first.now)) (beside (test_of (behind_first (env_of c.args.env.now) (next_of c.args.next.now) (first_of_head c.args.first.now)) (after_first (env_of c.args.env.now) (before_of c.args.before.now) (next_of c.args.next.now) (first_of_head c.args.first.now)) c.args.at (expr_behind c.args.test.now)) (step_of (behind_first (env_of c.args.env.now) (next_of c.args.next.now) (first_of_head c.args.first.now)) (after_maybe (after_first (env_of c.args.env.now) (before_of c.args.before.now) (next_of c.args.next.now) (first_of_head c.args.first.now)) (expr_behind c.args.test.now)) (expr_behind c.args.step.now))) (stmt (behind_first (env_of c.args.env.now) (next_of c.args.next.now) (first_of_head c.args.first.now)) (in_loop (around_of c.args.around.now)) (after_maybe (after_maybe (after_first (env_of c.args.env.now) (before_of c.args.before.now) (next_of c.args.next.now) (first_of_head c.args.first.now)) (expr_behind c.args.test.now)) (expr_behind c.args.step.now)) (past_names (next_of c.args.next.now) (names_of_first (first_of_head c.args.first.now))) (stmt_of c.args.body.now)) (stmt (env_of c.tests_of.new.env) (around_of c.in_loop-inner.result) (before_of c.tests_of.new.before) (next_of c.first_of.new.next) (stmt_of c.args.body.now)) (λ p tests q. fine (for_of p tests q)) c.from_residual-in_err-laid.ensures refl (λ i. stmt ((ap env_of c.in_ok-tests.ensures.kept ∙ c.in_ok-head.ensures.meant) i) (c.in_loop-inner.ensures i) ((c.in_ok-tests.ensures.counted ∙ ap (λ b. after_maybe (after_maybe b (expr_behind c.args.test.now)) (expr_behind c.args.step.now)) c.in_ok-head.ensures.counted) i) (c.in_ok-head.ensures.numbered i) (stmt_of c.args.body.now)) c.in_err-laid.ensures.judged;
+  counted = none_ok c.from_residual-in_err-laid.result _ c.from_residual-in_err-laid.ensures.0;
+  numbered = none_ok c.from_residual-in_err-laid.result _ c.from_residual-in_err-laid.ensures.0;
+  kept = none_ok c.from_residual-in_err-laid.result _ c.from_residual-in_err-laid.ensures.0;
+}
 
 pub for_parts-returns : goal.for_parts-returns
 for_parts-returns t c = record {
@@ -137,13 +181,21 @@ for_parts-returns t c = record {
   kept = on_ok c.found.result _ (declared_as c.args.env.now c.first_of.new.env c.statement.new.env c.in_ok-head.ensures.kept (c.in_ok-laid.ensures.kept ∙ c.in_ok-tests.ensures.kept));
 }
 
-pub switch_statement-returns-in_err-on-clause-judged : goal.switch_statement-returns-in_err-on-clause-judged
-switch_statement-returns-in_err-on-clause-judged t c =
-    fails_first statement_tree_of c.from_residual.result c.in_err-on.field-0.0 (stmt (env_of c.args.env.now) (around_of c.args.around.now) (before_of c.args.before.now) (next_of c.args.next.now) (switch_on c.args.at (expr_of c.args.e.now) (groups_of c.args.groups.now))) (switched c.args.at (value (env_of c.args.env.now) (before_of c.args.before.now) (expr_of c.args.e.now))) (groups_of_switch (env_of c.args.env.now) (in_switch (around_of c.args.around.now)) (after (before_of c.args.before.now) (expr_of c.args.e.now)) (next_of c.args.next.now) (label_type (switched c.args.at (value (env_of c.args.env.now) (before_of c.args.before.now) (expr_of c.args.e.now)))) (groups_of c.args.groups.now)) (switch_of c.args.at) c.from_residual.ensures refl c.in_err-on.ensures.judged
+pub switch_statement-returns-in_err-on : goal.switch_statement-returns-in_err-on
+switch_statement-returns-in_err-on t c = record {
+  judged = fails_first statement_tree_of c.from_residual.result c.in_err-on.field-0.0 (stmt (env_of c.args.env.now) (around_of c.args.around.now) (before_of c.args.before.now) (next_of c.args.next.now) (switch_on c.args.at (expr_of c.args.e.now) (groups_of c.args.groups.now))) (switched c.args.at (value (env_of c.args.env.now) (before_of c.args.before.now) (expr_of c.args.e.now))) (groups_of_switch (env_of c.args.env.now) (in_switch (around_of c.args.around.now)) (after (before_of c.args.before.now) (expr_of c.args.e.now)) (next_of c.args.next.now) (label_type (switched c.args.at (value (env_of c.args.env.now) (before_of c.args.before.now) (expr_of c.args.e.now)))) (groups_of c.args.groups.now)) (switch_of c.args.at) c.from_residual.ensures refl c.in_err-on.ensures.judged;
+  counted = none_ok c.from_residual.result _ c.from_residual.ensures.0;
+  numbered = none_ok c.from_residual.result _ c.from_residual.ensures.0;
+  kept = none_ok c.from_residual.result _ c.from_residual.ensures.0;
+}
 
-pub switch_statement-returns-in_err-laid-clause-judged : goal.switch_statement-returns-in_err-laid-clause-judged
-switch_statement-returns-in_err-laid-clause-judged t c =
-    fails_second statement_tree_of c.from_residual-in_err-laid.result c.in_err-laid.field-0.0 (stmt (env_of c.args.env.now) (around_of c.args.around.now) (before_of c.args.before.now) (next_of c.args.next.now) (switch_on c.args.at (expr_of c.args.e.now) (groups_of c.args.groups.now))) (switched c.args.at (value (env_of c.args.env.now) (before_of c.args.before.now) (expr_of c.args.e.now))) (groups_of_switch (env_of c.args.env.now) (in_switch (around_of c.args.around.now)) (after (before_of c.args.before.now) (expr_of c.args.e.now)) (next_of c.args.next.now) (label_type (switched c.args.at (value (env_of c.args.env.now) (before_of c.args.before.now) (expr_of c.args.e.now)))) (groups_of c.args.groups.now)) (groups_of_switch (env_of c.switched_value.new.env) (around_of c.in_switch-inner.result) (before_of c.switched_value.new.before) (next_of c.args.next.now) c.label_type-i.result (groups_of c.args.groups.now)) (switch_of c.args.at) c.from_residual-in_err-laid.ensures refl (λ j. groups_of_switch (env_of (c.in_ok-on.ensures.kept j)) (c.in_switch-inner.ensures j) (c.in_ok-on.ensures.counted j) (next_of c.args.next.now) ((c.label_type-i.ensures ∙ ap label_type (sym c.in_ok-on.ensures.judged)) j) (groups_of c.args.groups.now)) c.in_err-laid.ensures.judged
+pub switch_statement-returns-in_err-laid : goal.switch_statement-returns-in_err-laid
+switch_statement-returns-in_err-laid t c = record {
+  judged = fails_second statement_tree_of c.from_residual-in_err-laid.result c.in_err-laid.field-0.0 (stmt (env_of c.args.env.now) (around_of c.args.around.now) (before_of c.args.before.now) (next_of c.args.next.now) (switch_on c.args.at (expr_of c.args.e.now) (groups_of c.args.groups.now))) (switched c.args.at (value (env_of c.args.env.now) (before_of c.args.before.now) (expr_of c.args.e.now))) (groups_of_switch (env_of c.args.env.now) (in_switch (around_of c.args.around.now)) (after (before_of c.args.before.now) (expr_of c.args.e.now)) (next_of c.args.next.now) (label_type (switched c.args.at (value (env_of c.args.env.now) (before_of c.args.before.now) (expr_of c.args.e.now)))) (groups_of c.args.groups.now)) (groups_of_switch (env_of c.switched_value.new.env) (around_of c.in_switch-inner.result) (before_of c.switched_value.new.before) (next_of c.args.next.now) c.label_type-i.result (groups_of c.args.groups.now)) (switch_of c.args.at) c.from_residual-in_err-laid.ensures refl (λ j. groups_of_switch (env_of (c.in_ok-on.ensures.kept j)) (c.in_switch-inner.ensures j) (c.in_ok-on.ensures.counted j) (next_of c.args.next.now) ((c.label_type-i.ensures ∙ ap label_type (sym c.in_ok-on.ensures.judged)) j) (groups_of c.args.groups.now)) c.in_err-laid.ensures.judged;
+  counted = none_ok c.from_residual-in_err-laid.result _ c.from_residual-in_err-laid.ensures.0;
+  numbered = none_ok c.from_residual-in_err-laid.result _ c.from_residual-in_err-laid.ensures.0;
+  kept = none_ok c.from_residual-in_err-laid.result _ c.from_residual-in_err-laid.ensures.0;
+}
 
 pub switch_statement-returns : goal.switch_statement-returns
 switch_statement-returns t c = record {
@@ -173,9 +225,13 @@ items_of_block-loop-item-preserved t c =
       kept = declared_more c.args.env.now c.loop-item.env c.block_item.new.env c.loop-item.invariant.kept c.in_ok-one.ensures.kept;
     }
 
-pub items_of_block-returns-in_err-one-clause-judged : goal.items_of_block-returns-in_err-one-clause-judged
-items_of_block-returns-in_err-one-clause-judged t c =
-    raised statement_trees_of (items_of_block (env_of c.args.env.now) (around_of c.args.around.now) (before_of c.args.before.now) (next_of c.args.next.now) (block_items_of c.args.items.now)) c.from_residual.result c.in_err-one.field-0.0 c.from_residual.ensures (item_fails c.in_err-one.field-0.0 (env_of c.loop-item.env) (around_of c.args.around.now) (before_of c.loop-item.before) (next_of c.loop-item.next) c.args.items.now c.loop-item.item-index c.item-item.result (statement_trees_of c.loop-item.laid) (items_of_block (env_of c.args.env.now) (around_of c.args.around.now) (before_of c.args.before.now) (next_of c.args.next.now) (block_items_of c.args.items.now)) c.loop-item-test.true c.item-item.is c.loop-item.invariant.judged c.in_err-one.ensures.judged)
+pub items_of_block-returns-in_err-one : goal.items_of_block-returns-in_err-one
+items_of_block-returns-in_err-one t c = record {
+  judged = raised statement_trees_of (items_of_block (env_of c.args.env.now) (around_of c.args.around.now) (before_of c.args.before.now) (next_of c.args.next.now) (block_items_of c.args.items.now)) c.from_residual.result c.in_err-one.field-0.0 c.from_residual.ensures (item_fails c.in_err-one.field-0.0 (env_of c.loop-item.env) (around_of c.args.around.now) (before_of c.loop-item.before) (next_of c.loop-item.next) c.args.items.now c.loop-item.item-index c.item-item.result (statement_trees_of c.loop-item.laid) (items_of_block (env_of c.args.env.now) (around_of c.args.around.now) (before_of c.args.before.now) (next_of c.args.next.now) (block_items_of c.args.items.now)) c.loop-item-test.true c.item-item.is c.loop-item.invariant.judged c.in_err-one.ensures.judged);
+  counted = none_ok c.from_residual.result _ c.from_residual.ensures.0;
+  numbered = none_ok c.from_residual.result _ c.from_residual.ensures.0;
+  kept = none_ok c.from_residual.result _ c.from_residual.ensures.0;
+}
 
 pub items_of_block-returns : goal.items_of_block-returns
 items_of_block-returns t c = record {
@@ -194,9 +250,14 @@ block_item-returns-in-Declaration t c = record {
   kept = c.local_decl.ensures.kept;
 }
 
-pub block_item-returns-in_err-one-in-Statement-clause-judged : goal.block_item-returns-in_err-one-in-Statement-clause-judged
-block_item-returns-in_err-one-in-Statement-clause-judged t c =
-    raised statement_trees_of (item_alone (env_of c.args.env.now) (around_of c.args.around.now) (before_of c.args.before.now) (next_of c.args.next.now) c.args.item.now) c.from_residual.result c.in_err-one-in-Statement.field-0.0 c.from_residual.ensures (subst (λ x. Names c.in_err-one-in-Statement.field-0.0 (faults (item_alone (env_of c.args.env.now) (around_of c.args.around.now) (before_of c.args.before.now) (next_of c.args.next.now) x))) (sym c.in-Statement.is) (names_on c.in_err-one-in-Statement.field-0.0 (stmt (env_of c.args.env.now) (around_of c.args.around.now) (before_of c.args.before.now) (next_of c.args.next.now) (stmt_of c.in-Statement.s)) (λ p. fine (alone p)) c.in_err-one-in-Statement.ensures.judged))
+pub block_item-returns-in_err-one-in-Statement : goal.block_item-returns-in_err-one-in-Statement
+block_item-returns-in_err-one-in-Statement t c = record {
+  judged = raised statement_trees_of (item_alone (env_of c.args.env.now) (around_of c.args.around.now) (before_of c.args.before.now) (next_of c.args.next.now) c.args.item.now) c.from_residual.result c.in_err-one-in-Statement.field-0.0 c.from_residual.ensures (subst (λ x. Names c.in_err-one-in-Statement.field-0.0 (faults (item_alone (env_of c.args.env.now) (around_of c.args.around.now) (before_of c.args.before.now) (next_of c.args.next.now) x))) (sym c.in-Statement.is) (names_on c.in_err-one-in-Statement.field-0.0 (stmt (env_of c.args.env.now) (around_of c.args.around.now) (before_of c.args.before.now) (next_of c.args.next.now) (stmt_of c.in-Statement.s)) (λ p. fine (alone p)) c.in_err-one-in-Statement.ensures.judged));
+  counted = none_ok c.from_residual.result _ c.from_residual.ensures.0;
+  meant = none_ok c.from_residual.result _ c.from_residual.ensures.0;
+  numbered = none_ok c.from_residual.result _ c.from_residual.ensures.0;
+  kept = none_ok c.from_residual.result _ c.from_residual.ensures.0;
+}
 
 pub block_item-returns-in_ok-one-in-Statement : goal.block_item-returns-in_ok-one-in-Statement
 block_item-returns-in_ok-one-in-Statement t c = record {
@@ -227,9 +288,13 @@ statements-loop-s-preserved t c =
       kept = c.in_ok-one.ensures.kept ∙ c.loop-s.invariant.kept;
     }
 
-pub statements-returns-in_err-one-clause-judged : goal.statements-returns-in_err-one-clause-judged
-statements-returns-in_err-one-clause-judged t c =
-    raised statement_trees_of (stmts (env_of c.args.env.now) (around_of c.args.around.now) (before_of c.args.before.now) (next_of c.args.next.now) (stmts_of c.args.ss.now)) c.from_residual.result c.in_err-one.field-0.0 c.from_residual.ensures (stmt_fails c.in_err-one.field-0.0 (env_of c.args.env.now) (env_of c.loop-s.env) (around_of c.args.around.now) (before_of c.loop-s.before) (next_of c.loop-s.next) c.args.ss.now c.loop-s.s-index c.s-item.result (statement_trees_of c.loop-s.laid) (stmts (env_of c.args.env.now) (around_of c.args.around.now) (before_of c.args.before.now) (next_of c.args.next.now) (stmts_of c.args.ss.now)) c.loop-s-test.true c.s-item.is (ap env_of c.loop-s.invariant.kept) c.loop-s.invariant.judged c.in_err-one.ensures.judged)
+pub statements-returns-in_err-one : goal.statements-returns-in_err-one
+statements-returns-in_err-one t c = record {
+  judged = raised statement_trees_of (stmts (env_of c.args.env.now) (around_of c.args.around.now) (before_of c.args.before.now) (next_of c.args.next.now) (stmts_of c.args.ss.now)) c.from_residual.result c.in_err-one.field-0.0 c.from_residual.ensures (stmt_fails c.in_err-one.field-0.0 (env_of c.args.env.now) (env_of c.loop-s.env) (around_of c.args.around.now) (before_of c.loop-s.before) (next_of c.loop-s.next) c.args.ss.now c.loop-s.s-index c.s-item.result (statement_trees_of c.loop-s.laid) (stmts (env_of c.args.env.now) (around_of c.args.around.now) (before_of c.args.before.now) (next_of c.args.next.now) (stmts_of c.args.ss.now)) c.loop-s-test.true c.s-item.is (ap env_of c.loop-s.invariant.kept) c.loop-s.invariant.judged c.in_err-one.ensures.judged);
+  counted = none_ok c.from_residual.result _ c.from_residual.ensures.0;
+  numbered = none_ok c.from_residual.result _ c.from_residual.ensures.0;
+  kept = none_ok c.from_residual.result _ c.from_residual.ensures.0;
+}
 
 pub statements-returns : goal.statements-returns
 statements-returns t c = record {
@@ -259,9 +324,13 @@ groups_of_switch-loop-group-preserved t c =
       kept = c.in_ok-laid.ensures.kept ∙ c.loop-group.invariant.kept;
     }
 
-pub groups_of_switch-returns-in_err-laid-clause-judged : goal.groups_of_switch-returns-in_err-laid-clause-judged
-groups_of_switch-returns-in_err-laid-clause-judged t c =
-    raised labelled_of (groups_of_switch (env_of c.args.env.now) (around_of c.args.around.now) (before_of c.args.before.now) (next_of c.args.next.now) c.args.i (groups_of c.args.groups.now)) c.from_residual.result c.in_err-laid.field-0.0 c.from_residual.ensures (group_fails (around_of c.args.around.now) c.args.i c.args.groups.now c.loop-group.group-index c.group-item.result c.in_err-laid.field-0.0 (env_of c.args.env.now) (env_of c.loop-group.env) (before_of c.loop-group.before) (next_of c.loop-group.next) (labelled_of c.loop-group.laid) (groups_of_switch (env_of c.args.env.now) (around_of c.args.around.now) (before_of c.args.before.now) (next_of c.args.next.now) c.args.i (groups_of c.args.groups.now)) c.loop-group-test.true c.group-item.is (ap env_of c.loop-group.invariant.kept) c.loop-group.invariant.judged c.in_err-laid.ensures.judged)
+pub groups_of_switch-returns-in_err-laid : goal.groups_of_switch-returns-in_err-laid
+groups_of_switch-returns-in_err-laid t c = record {
+  judged = raised labelled_of (groups_of_switch (env_of c.args.env.now) (around_of c.args.around.now) (before_of c.args.before.now) (next_of c.args.next.now) c.args.i (groups_of c.args.groups.now)) c.from_residual.result c.in_err-laid.field-0.0 c.from_residual.ensures (group_fails (around_of c.args.around.now) c.args.i c.args.groups.now c.loop-group.group-index c.group-item.result c.in_err-laid.field-0.0 (env_of c.args.env.now) (env_of c.loop-group.env) (before_of c.loop-group.before) (next_of c.loop-group.next) (labelled_of c.loop-group.laid) (groups_of_switch (env_of c.args.env.now) (around_of c.args.around.now) (before_of c.args.before.now) (next_of c.args.next.now) c.args.i (groups_of c.args.groups.now)) c.loop-group-test.true c.group-item.is (ap env_of c.loop-group.invariant.kept) c.loop-group.invariant.judged c.in_err-laid.ensures.judged);
+  counted = none_ok c.from_residual.result _ c.from_residual.ensures.0;
+  numbered = none_ok c.from_residual.result _ c.from_residual.ensures.0;
+  kept = none_ok c.from_residual.result _ c.from_residual.ensures.0;
+}
 
 pub groups_of_switch-returns : goal.groups_of_switch-returns
 groups_of_switch-returns t c = record {
@@ -271,13 +340,21 @@ groups_of_switch-returns t c = record {
   kept = c.loop-group.invariant.kept;
 }
 
-pub group_behind-returns-in_err-labels-clause-judged : goal.group_behind-returns-in_err-labels-clause-judged
-group_behind-returns-in_err-labels-clause-judged t c =
-    raised labelled_of (group_behind (env_of c.args.env.now) (around_of c.args.around.now) (before_of c.args.before.now) (next_of c.args.next.now) c.args.i (labelled_of c.args.done) c.args.group.now) c.from_residual.result c.in_err-labels.field-0.0 c.from_residual.ensures (named_first c.in_err-labels.field-0.0 (group_behind (env_of c.args.env.now) (around_of c.args.around.now) (before_of c.args.before.now) (next_of c.args.next.now) c.args.i (labelled_of c.args.done) c.args.group.now) (labels_of (env_of c.args.env.now) c.args.i (labels_in c.args.group.now)) (labels_of (env_of c.args.env.now) c.args.i (labels_seen c.deref.result.now)) (stmts (env_of c.args.env.now) (around_of c.args.around.now) (before_of c.args.before.now) (next_of c.args.next.now) (stmts_in c.args.group.now)) (λ vs p. fine (labelled_before (labelled_of c.args.done) (labelled vs p no_labelled))) refl (λ j. labels_of (env_of c.args.env.now) c.args.i (labels_seen (c.deref.ensures.value j))) c.in_err-labels.ensures.judged)
+pub group_behind-returns-in_err-labels : goal.group_behind-returns-in_err-labels
+group_behind-returns-in_err-labels t c = record {
+  judged = raised labelled_of (group_behind (env_of c.args.env.now) (around_of c.args.around.now) (before_of c.args.before.now) (next_of c.args.next.now) c.args.i (labelled_of c.args.done) c.args.group.now) c.from_residual.result c.in_err-labels.field-0.0 c.from_residual.ensures (named_first c.in_err-labels.field-0.0 (group_behind (env_of c.args.env.now) (around_of c.args.around.now) (before_of c.args.before.now) (next_of c.args.next.now) c.args.i (labelled_of c.args.done) c.args.group.now) (labels_of (env_of c.args.env.now) c.args.i (labels_in c.args.group.now)) (labels_of (env_of c.args.env.now) c.args.i (labels_seen c.deref.result.now)) (stmts (env_of c.args.env.now) (around_of c.args.around.now) (before_of c.args.before.now) (next_of c.args.next.now) (stmts_in c.args.group.now)) (λ vs p. fine (labelled_before (labelled_of c.args.done) (labelled vs p no_labelled))) refl (λ j. labels_of (env_of c.args.env.now) c.args.i (labels_seen (c.deref.ensures.value j))) c.in_err-labels.ensures.judged);
+  counted = none_ok c.from_residual.result _ c.from_residual.ensures.0;
+  numbered = none_ok c.from_residual.result _ c.from_residual.ensures.0;
+  kept = none_ok c.from_residual.result _ c.from_residual.ensures.0;
+}
 
-pub group_behind-returns-in_err-body-clause-judged : goal.group_behind-returns-in_err-body-clause-judged
-group_behind-returns-in_err-body-clause-judged t c =
-    fails_second labelled_of c.from_residual-in_err-body.result c.in_err-body.field-0.0 (group_behind (env_of c.args.env.now) (around_of c.args.around.now) (before_of c.args.before.now) (next_of c.args.next.now) c.args.i (labelled_of c.args.done) c.args.group.now) (labels_of (env_of c.args.env.now) c.args.i (labels_in c.args.group.now)) (stmts (env_of c.args.env.now) (around_of c.args.around.now) (before_of c.args.before.now) (next_of c.args.next.now) (stmts_in c.args.group.now)) (stmts (env_of c.labels_of.new.env) (around_of c.args.around.now) (before_of c.args.before.now) (next_of c.args.next.now) (stmts_of c.deref-2.result.now)) (λ vs p. fine (labelled_before (labelled_of c.args.done) (labelled vs p no_labelled))) c.from_residual-in_err-body.ensures refl (λ j. stmts (env_of (c.in_ok-labels.ensures.kept j)) (around_of c.args.around.now) (before_of c.args.before.now) (next_of c.args.next.now) (stmts_of (c.deref-2.ensures.value j))) c.in_err-body.ensures.judged
+pub group_behind-returns-in_err-body : goal.group_behind-returns-in_err-body
+group_behind-returns-in_err-body t c = record {
+  judged = fails_second labelled_of c.from_residual-in_err-body.result c.in_err-body.field-0.0 (group_behind (env_of c.args.env.now) (around_of c.args.around.now) (before_of c.args.before.now) (next_of c.args.next.now) c.args.i (labelled_of c.args.done) c.args.group.now) (labels_of (env_of c.args.env.now) c.args.i (labels_in c.args.group.now)) (stmts (env_of c.args.env.now) (around_of c.args.around.now) (before_of c.args.before.now) (next_of c.args.next.now) (stmts_in c.args.group.now)) (stmts (env_of c.labels_of.new.env) (around_of c.args.around.now) (before_of c.args.before.now) (next_of c.args.next.now) (stmts_of c.deref-2.result.now)) (λ vs p. fine (labelled_before (labelled_of c.args.done) (labelled vs p no_labelled))) c.from_residual-in_err-body.ensures refl (λ j. stmts (env_of (c.in_ok-labels.ensures.kept j)) (around_of c.args.around.now) (before_of c.args.before.now) (next_of c.args.next.now) (stmts_of (c.deref-2.ensures.value j))) c.in_err-body.ensures.judged;
+  counted = none_ok c.from_residual-in_err-body.result _ c.from_residual-in_err-body.ensures.0;
+  numbered = none_ok c.from_residual-in_err-body.result _ c.from_residual-in_err-body.ensures.0;
+  kept = none_ok c.from_residual-in_err-body.result _ c.from_residual-in_err-body.ensures.0;
+}
 
 pub group_behind-returns : goal.group_behind-returns
 group_behind-returns t c = record {
@@ -367,9 +444,13 @@ statement-returns-in-Switch t c = record {
   kept = c.switch_statement.ensures.kept;
 }
 
-pub statement-returns-in_err-parts-in-If-clause-judged : goal.statement-returns-in_err-parts-in-If-clause-judged
-statement-returns-in_err-parts-in-If-clause-judged t c =
-    raised statement_tree_of (stmt (env_of c.args.env.now) (around_of c.args.around.now) (before_of c.args.before.now) (next_of c.args.next.now) (stmt_of c.args.s.now)) c.from_residual.result c.in_err-parts-in-If.field-0.0 c.from_residual.ensures (subst (λ z. Names c.in_err-parts-in-If.field-0.0 (faults (stmt (env_of c.args.env.now) (around_of c.args.around.now) (before_of c.args.before.now) (next_of c.args.next.now) z))) (if_seen c.args.s.now c.in-If.test c.in-If.yes c.in-If.no c.deref-in-If-2.result.now c.deref-in-If.result.now c.in-If.is c.deref-in-If-2.ensures c.deref-in-If.ensures) (if_fails c.in_err-parts-in-If.field-0.0 (env_of c.args.env.now) (around_of c.args.around.now) (before_of c.args.before.now) (next_of c.args.next.now) c.args.s.now.at c.deref-in-If-2.result.now (stmt_of c.deref-in-If.result.now) (else_behind c.in-If.no) c.in_err-parts-in-If.ensures.judged))
+pub statement-returns-in_err-parts-in-If : goal.statement-returns-in_err-parts-in-If
+statement-returns-in_err-parts-in-If t c = record {
+  judged = raised statement_tree_of (stmt (env_of c.args.env.now) (around_of c.args.around.now) (before_of c.args.before.now) (next_of c.args.next.now) (stmt_of c.args.s.now)) c.from_residual.result c.in_err-parts-in-If.field-0.0 c.from_residual.ensures (subst (λ z. Names c.in_err-parts-in-If.field-0.0 (faults (stmt (env_of c.args.env.now) (around_of c.args.around.now) (before_of c.args.before.now) (next_of c.args.next.now) z))) (if_seen c.args.s.now c.in-If.test c.in-If.yes c.in-If.no c.deref-in-If-2.result.now c.deref-in-If.result.now c.in-If.is c.deref-in-If-2.ensures c.deref-in-If.ensures) (if_fails c.in_err-parts-in-If.field-0.0 (env_of c.args.env.now) (around_of c.args.around.now) (before_of c.args.before.now) (next_of c.args.next.now) c.args.s.now.at c.deref-in-If-2.result.now (stmt_of c.deref-in-If.result.now) (else_behind c.in-If.no) c.in_err-parts-in-If.ensures.judged));
+  counted = none_ok c.from_residual.result _ c.from_residual.ensures.0;
+  numbered = none_ok c.from_residual.result _ c.from_residual.ensures.0;
+  kept = none_ok c.from_residual.result _ c.from_residual.ensures.0;
+}
 
 pub statement-returns-in-None : goal.statement-returns-in-None
 statement-returns-in-None t c = record {

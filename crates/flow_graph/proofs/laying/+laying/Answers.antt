@@ -7,6 +7,24 @@ use Rattle.flow_graph.proofs.LayingLemmas.{parts_many, of_cases, on_same, next_s
 use Rattle.flow_graph.specs.declared.shape.Shape.TheViews.{size-Shape, sized-Seq, sized-Cases}
 use Rattle.flow_graph.proofs.laying.+laying.Goals as goal
 
+pub lay-returns-in-Skip-clause-laid : goal.lay-returns-in-Skip-clause-laid
+lay-returns-in-Skip-clause-laid t c = on_same c.lay_edge.result (edges_in c.args.into.now.items) (edges_in c.lay_edge.new.into.items) _ _ (ap (λ s. edges (shape_of s) c.args.a c.args.n (places_of c.args.p)) c.in-Skip.is) c.lay_edge.ensures.laid
+
+pub lay-returns-in-Sys-clause-laid : goal.lay-returns-in-Sys-clause-laid
+lay-returns-in-Sys-clause-laid t c = on_same c.lay_edge-in-Sys.result (edges_in c.args.into.now.items) (edges_in c.lay_edge-in-Sys.new.into.items) _ _ (ap (λ s. edges (shape_of s) c.args.a c.args.n (places_of c.args.p)) c.in-Sys.is) c.lay_edge-in-Sys.ensures.laid
+
+pub lay-returns-in-Call-clause-laid : goal.lay-returns-in-Call-clause-laid
+lay-returns-in-Call-clause-laid t c = on_same c.lay_edge-in-Call.result (edges_in c.args.into.now.items) (edges_in c.lay_edge-in-Call.new.into.items) _ _ (ap (λ s. edges (shape_of s) c.args.a c.args.n (places_of c.args.p)) c.in-Call.is) c.lay_edge-in-Call.ensures.laid
+
+pub lay-returns-in-Break-clause-laid : goal.lay-returns-in-Break-clause-laid
+lay-returns-in-Break-clause-laid t c = on_same c.lay_edge-in-Break.result (edges_in c.args.into.now.items) (edges_in c.lay_edge-in-Break.new.into.items) _ _ (ap (λ s. edges (shape_of s) c.args.a c.args.n (places_of c.args.p)) c.in-Break.is) c.lay_edge-in-Break.ensures.laid
+
+pub lay-returns-in-Continue-clause-laid : goal.lay-returns-in-Continue-clause-laid
+lay-returns-in-Continue-clause-laid t c = on_same c.lay_edge-in-Continue.result (edges_in c.args.into.now.items) (edges_in c.lay_edge-in-Continue.new.into.items) _ _ (ap (λ s. edges (shape_of s) c.args.a c.args.n (places_of c.args.p)) c.in-Continue.is) c.lay_edge-in-Continue.ensures.laid
+
+pub lay-returns-in-Return-clause-laid : goal.lay-returns-in-Return-clause-laid
+lay-returns-in-Return-clause-laid t c = on_same c.lay_edge-in-Return.result (edges_in c.args.into.now.items) (edges_in c.lay_edge-in-Return.new.into.items) _ _ (ap (λ s. edges (shape_of s) c.args.a c.args.n (places_of c.args.p)) c.in-Return.is) c.lay_edge-in-Return.ensures.laid
+
 pub lay-returns-in-Cases-clause-laid : goal.lay-returns-in-Cases-clause-laid
 lay-returns-in-Cases-clause-laid t c = on_same c.lay_cases.result (edges_in c.args.into.now.items) (edges_in c.lay_cases.new.into.items) (edges (shape_of c.args.shape.now) c.args.a c.args.n (places_of c.args.p)) (edges (Cases (parts_of c.deref-in-Cases.result.now) c.in-Cases.has_default) c.args.a c.args.n (places_of c.args.p)) (ap (λ S. edges S c.args.a c.args.n (places_of c.args.p)) (of_cases c.args.shape.now c.in-Cases.groups c.in-Cases.has_default c.deref-in-Cases.result.now c.in-Cases.is c.deref-in-Cases.ensures.value)) c.lay_cases.ensures.laid
 
@@ -58,7 +76,7 @@ lay-returns-in_ok-next-in-Loop-2-clause-laid t c =
     let C = c.deref-in-Loop.result.now in
     let B = c.deref-in-Loop-2.result.now in
     let P = c.deref-in-Loop-3.result.now in
-    loop_laid c.lay-in-Loop-3.result (edges_in c.args.into.now.items) (edges_in c.add_silent-in-Loop.new.into.items) (edges_in c.add_silent-in-Loop-2.new.into.items) (edges_in c.lay-in-Loop.new.into.items) (edges_in c.lay-in-Loop-2.new.into.items) (edges_in c.lay-in-Loop-3.new.into.items)
+    loop_laid c.lay-in-Loop-3.result (edges_in c.args.into.now.items) (edges_in c.add_silent.new.into.items) (edges_in c.add_silent-in-Loop.new.into.items) (edges_in c.lay-in-Loop.new.into.items) (edges_in c.lay-in-Loop-2.new.into.items) (edges_in c.lay-in-Loop-3.new.into.items)
     (shape_of c.args.shape.now) (shape_of C) (shape_of B) (shape_of P) c.args.a c.args.n c.in_ok-next-in-Loop.next c.in_ok-next-in-Loop-2.next (places_of c.args.p)
     (ap shape_of c.in-Loop.is ∙ ap₂ (λ x y. Loop (shape_of x) (shape_of y) (shape_of c.in-Loop.step.value)) (sym c.deref-in-Loop.ensures) (sym c.deref-in-Loop-2.ensures) ∙ ap (λ z. Loop (shape_of C) (shape_of B) (shape_of z)) (sym c.deref-in-Loop-3.ensures))
     c.in_ok-add_silent-in-Loop.ensures c.in_ok-add_silent-in-Loop-2.ensures c.in_ok-next-in-Loop.ensures.laid c.in_ok-next-in-Loop.ensures.next c.in_ok-next-in-Loop-2.ensures.laid c.in_ok-next-in-Loop-2.ensures.next c.lay-in-Loop-3.ensures.laid

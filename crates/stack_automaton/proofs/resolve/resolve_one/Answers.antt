@@ -1,5 +1,6 @@
 use Rattle.std.proofs.Common.{◌≡◌, true, rules, arith, subst, sym}
 use Rattle.std.proofs.lemmas.Option.{slice_get_within}
+use Rattle.std.proofs.lemmas.Result.{on_ok_weaker}
 use Rattle.slab.specs.Slab.{get}
 use Rattle.stack_automaton.specs.declared.place.Link.{Link}
 use Rattle.stack_automaton.specs.Links.{HasLink, functions_of}
@@ -33,14 +34,13 @@ note_key-requires c =
     let lt = slice_get_within (functions_of c.args.links.now) c.args.place c.in-Some.function (sym c.in-Some.ensures) in
     record { within = omega (arith, lt, c.requires.resolved.long) }
 
-pub returns-in_err-note_key-clause-grows : goal.returns-in_err-note_key-clause-grows
-returns-in_err-note_key-clause-grows c = grows (goal.at.returns-in_err-note_key-clause-grows c).After-share
-
 pub returns-clause-grows : goal.returns-clause-grows
 returns-clause-grows c = grows (goal.at.returns-clause-grows c).After-share
 
 pub returns-clause-resolved : goal.returns-clause-resolved
 returns-clause-resolved c =
     let at = (goal.at.returns-clause-resolved c).After-share in
-    resolved_more (get c.args.states.now) (get c.share.new.states) c.args.keys.now.items c.note_key.new.keys.items c.args.known.now.keys c.note_key.new.known.keys c.args.links.now c.args.place c.in-Some.function c.in_ok-key.key c.deref-2.result.now
-    c.requires.resolved (grows at) (sym c.in-Some.ensures) (λ has. let holds : true ≡ c.is_among.result = sym (c.is_among.ensures.1 has) in absurd cc) (below at) (list at) c.in_ok-key.ensures.found c.note_key.ensures.long c.note_key.ensures.at c.note_key.ensures.others c.in_ok-note_key.ensures.known
+    on_ok_weaker c.note_key.result
+    (resolved_more (get c.args.states.now) (get c.share.new.states) c.args.keys.now.items c.note_key.new.keys.items c.args.known.now.keys c.note_key.new.known.keys c.args.links.now c.args.place c.in-Some.function c.in_ok-key.key c.deref-2.result.now
+    c.requires.resolved (grows at) (sym c.in-Some.ensures) (λ has. let holds : true ≡ c.is_among.result = sym (c.is_among.ensures.1 has) in absurd cc) (below at) (list at) c.in_ok-key.ensures.found c.note_key.ensures.long c.note_key.ensures.at c.note_key.ensures.others)
+    c.note_key.ensures.known

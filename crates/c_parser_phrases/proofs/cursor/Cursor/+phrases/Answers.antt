@@ -675,3 +675,33 @@ part-returns-clause-shorter t c = when_read c.function_node.result (omega (arith
 
 pub part-returns-clause-fits : goal.part-returns-clause-fits
 part-returns-clause-fits t c = IfOk-weaker c.function_node.result _ _ (λ m e. omega (arith, e, c.requires, c.in_node-2.ensures.nodes, c.in_ok-list.ensures.fits)) c.function_node.ensures.height
+
+pub lengthened-loop-alloc-init : goal.lengthened-loop-alloc-init
+lengthened-loop-alloc-init t c = record {
+  reads = λ e k s. s;
+  deep = λ d. d;
+  suits = λ form s. s;
+  fits = c.requires;
+  shorter = omega arith;
+}
+
+pub lengthened-loop-alloc-preserved : goal.lengthened-loop-alloc-preserved
+lengthened-loop-alloc-preserved t c = record {
+  reads = λ e k s. c.loop-alloc.invariant.reads e k (c.in_ok-left.ensures.parses.0 e k s);
+  deep = λ d. c.in_ok-left.ensures.deep (c.loop-alloc.invariant.deep d);
+  suits = λ form s. c.in_ok-left.ensures.parses.1 form (c.loop-alloc.invariant.suits form s);
+  fits = c.in_ok-left.ensures.fits;
+  shorter = omega (arith, c.in_ok-left.ensures.shorter, c.loop-alloc.invariant.shorter);
+}
+
+pub postfix_expression-loop-suffix-init : goal.postfix_expression-loop-suffix-init
+postfix_expression-loop-suffix-init t c = record {
+  at = c.place-at.ensures;
+  reads = (_, _, c.in_ok-left.ensures.parses.0, c.in_ok-left.ensures.parses.1, λ e k s. s);
+  deep = c.in_ok-left.ensures.deep;
+  fits = c.in_ok-left.ensures.fits;
+  shorter = c.in_ok-left.ensures.shorter;
+}
+
+pub primary_expression-returns-then-is_at_leaf-clause-parses : goal.primary_expression-returns-then-is_at_leaf-clause-parses
+primary_expression-returns-then-is_at_leaf-clause-parses t c = (c.in_ok-leaf.ensures.parses _, over _ 0 (omega arith) (not_there c.is_at_string.result c.if-is_at_string.false c.is_at_string.ensures))

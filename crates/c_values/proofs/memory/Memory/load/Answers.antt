@@ -1,5 +1,5 @@
 use Rattle.std.proofs.Common.{ap, sym, ◌∙◌}
-use Rattle.indexmap.specs.IndexMap.{get}
+use Rattle.std.specs.HashMap.{get}
 use Rattle.c_values.specs.Seen.{same_key, as_object}
 use Rattle.c_values.specs.Held.{held_object}
 use Rattle.c_values.proofs.memory.Memory.load.Goals as goal

@@ -1,5 +1,5 @@
 use Rattle.std.proofs.Common.{ap, ◌∙◌, Some, true, rules}
-use Rattle.indexmap.specs.IndexMap.{get}
+use Rattle.std.specs.HashMap.{get}
 use Rattle.c_values.specs.declared.held.Held.{Held}
 use Rattle.c_values.specs.Memory.{changed, marked}
 use Rattle.c_values.specs.Seen.{same_key, as_object, seen}

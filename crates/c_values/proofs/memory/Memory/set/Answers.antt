@@ -1,5 +1,5 @@
 use Rattle.std.proofs.Common.{ap, sym, ◌∙◌, subst, Some, rules}
-use Rattle.indexmap.specs.IndexMap.{get}
+use Rattle.std.specs.HashMap.{get}
 use Rattle.c_values.specs.Memory.{changed}
 use Rattle.c_values.specs.Cells.{with_cell, HasCell}
 use Rattle.c_values.specs.Seen.{same_key, as_object, seen}

@@ -1,5 +1,5 @@
 use Rattle.std.proofs.Common.{ap, sym, ◌∙◌, Some, rules}
-use Rattle.indexmap.specs.IndexMap.{get}
+use Rattle.std.specs.HashMap.{get}
 use Rattle.c_values.specs.Seen.{same_key, as_object, seen}
 use Rattle.c_values.specs.Held.{held_object}
 use Rattle.c_values.proofs.SeenLemmas.{updated, stores, refuses}

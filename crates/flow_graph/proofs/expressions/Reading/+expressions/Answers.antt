@@ -1,7 +1,13 @@
-use Rattle.std.proofs.Common.{◌≡◌, ◌∙◌, ℕ, Bool, List, Result, IfOk, ap, ap₂, refl, sym}
+use Rattle.std.proofs.Common.{◌≡◌, ◌⊎◌, ◌∙◌, inl, inr, ℕ, Bool, List, Global, Result, IfOk, ap, ap₂, sym}
+use Rattle.std.specs.Prelude.{Box}
 use Rattle.dm_base.specs.declared.memory.OutOfMemory.{OutOfMemory}
 use Rattle.c_tree.specs.declared.tree.TExpr.{TExpr}
-use Rattle.c_tree.specs.declared.tree.TExprKind.{TExprKind}
+use Rattle.c_tree.specs.declared.value.Value.{Value}
+use Rattle.c_tree.specs.declared.value.IntType.{IntType}
+use Rattle.c_tree.specs.declared.value.UnOp.{UnOp}
+use Rattle.c_tree.specs.declared.value.BinOp.{BinOp}
+use Rattle.c_tree.specs.declared.tree.TExprKind.{TExprKind, Const, Function, StringPlace, Variable}
+use Rattle.c_tree.specs.declared.tree.TExprKind.TheVariants.{Deref, Load, AddressOf, Decay, Discard, Field, Unary, Convert, Arith, Compare, PointerAdd, PointerDiff, And, Or, Assign, Update}
 use Rattle.c_tree.specs.View.{ctype_of, expr_with, expr_of, exprs_of}
 use Rattle.c_meaning.specs.Shape.{Shape, Skip, End}
 use Rattle.c_meaning.specs.ShapeOf.{before_parts, without_skips, in_turn, seq_two, alt}
@@ -14,93 +20,96 @@ use Rattle.flow_graph.proofs.Trees.{of_comma, of_call, of_call_through, same_sha
 use Rattle.flow_graph.proofs.expressions.Reading.+expressions.Goals as goal
 
 module _ (n : ℕ) (ms : List Bool) where
+  -- the shape of what has this form
+  of_kind : (e : TExpr) (k : TExprKind) → e.kind ≡ k → expr_at n ms (expr_with (ctype_of e.ctype) k) ≡ expr_at n ms (expr_of e)
+  of_kind e k is = sym (ap (λ k. expr_at n ms (expr_with (ctype_of e.ctype) k)) is)
+
+  -- the forms without parts
+  of_none : (e : TExpr)
+      → ((v : Value) × (e.kind ≡ Const v)) ⊎ (((f : ℕ) × (e.kind ≡ Function f)) ⊎ (((k : ℕ) × (e.kind ≡ StringPlace k)) ⊎ ((s : Bool) × (k : ℕ) × (e.kind ≡ Variable s k))))
+      → Skip ≡ expr_at n ms (expr_of e)
+  of_none e (inl h) = of_kind e (Const h.0) h.1
+  of_none e (inr (inl h)) = of_kind e (Function h.0) h.1
+  of_none e (inr (inr (inl h))) = of_kind e (StringPlace h.0) h.1
+  of_none e (inr (inr (inr h))) = of_kind e (Variable h.0 h.1) h.2
+
+  -- the forms whose shape is that of their part
+  of_one : (e : TExpr) (a : Box TExpr Global)
+      → (e.kind ≡ Deref a) ⊎ ((e.kind ≡ Load a) ⊎ ((e.kind ≡ AddressOf a) ⊎ ((e.kind ≡ Decay a) ⊎ ((e.kind ≡ Discard a) ⊎ (((k : ℕ) × (e.kind ≡ Field a k)) ⊎ (((op : UnOp) × (e.kind ≡ Unary op a)) ⊎ ((t : IntType) × (e.kind ≡ Convert t a))))))))
+      → expr_at n ms (expr_of a.value) ≡ expr_at n ms (expr_of e)
+  of_one e a (inl is) = of_kind e (Deref a) is
+  of_one e a (inr (inl is)) = of_kind e (Load a) is
+  of_one e a (inr (inr (inl is))) = of_kind e (AddressOf a) is
+  of_one e a (inr (inr (inr (inl is)))) = of_kind e (Decay a) is
+  of_one e a (inr (inr (inr (inr (inl is))))) = of_kind e (Discard a) is
+  of_one e a (inr (inr (inr (inr (inr (inl h)))))) = of_kind e (Field a h.0) h.1
+  of_one e a (inr (inr (inr (inr (inr (inr (inl h))))))) = of_kind e (Unary h.0 a) h.1
+  of_one e a (inr (inr (inr (inr (inr (inr (inr h))))))) = of_kind e (Convert h.0 a) h.1
+
+  -- the forms with two parts, both of which come
+  of_both : (e : TExpr) (a b : Box TExpr Global)
+      → ((op : BinOp) × (e.kind ≡ Arith op a b)) ⊎ (((op : BinOp) × (e.kind ≡ Compare op a b)) ⊎ (((f s : Bool) × (e.kind ≡ PointerAdd f s a b)) ⊎ ((e.kind ≡ PointerDiff a b) ⊎ ((e.kind ≡ Assign a b) ⊎ ((op : BinOp) × (old : Bool) × (e.kind ≡ Update op old a b))))))
+      → seq_two (expr_at n ms (expr_of a.value)) (expr_at n ms (expr_of b.value)) ≡ expr_at n ms (expr_of e)
+  of_both e a b (inl h) = of_kind e (Arith h.0 a b) h.1
+  of_both e a b (inr (inl h)) = of_kind e (Compare h.0 a b) h.1
+  of_both e a b (inr (inr (inl h))) = of_kind e (PointerAdd h.0 h.1 a b) h.2
+  of_both e a b (inr (inr (inr (inl is)))) = of_kind e (PointerDiff a b) is
+  of_both e a b (inr (inr (inr (inr (inl is))))) = of_kind e (Assign a b) is
+  of_both e a b (inr (inr (inr (inr (inr h))))) = of_kind e (Update h.0 h.1 a b) h.2
+
+  -- the forms with two parts, of which the second one may come
+  of_second : (e : TExpr) (a b : Box TExpr Global) → (e.kind ≡ And a b) ⊎ (e.kind ≡ Or a b)
+      → seq_two (expr_at n ms (expr_of a.value)) (alt (expr_at n ms (expr_of b.value)) Skip) ≡ expr_at n ms (expr_of e)
+  of_second e a b (inl is) = of_kind e (And a b) is
+  of_second e a b (inr is) = of_kind e (Or a b) is
+
   -- the form of an expression says its shape
   of_form : (r : Result Tree OutOfMemory) (e : TExpr) (k : TExprKind) (S : Shape) → e.kind ≡ k → S ≡ expr_at n ms (expr_with (ctype_of e.ctype) k) → IfOk r (λ s. shape_of s ≡ S) → IfOk r (λ s. shape_of s ≡ expr_at n ms (expr_of e))
-  of_form r e k S is form = same_shape r S (expr_at n ms (expr_of e)) (form ∙ sym (ap (λ k. expr_at n ms (expr_with (ctype_of e.ctype) k)) is))
+  of_form r e k S is form = same_shape r S (expr_at n ms (expr_of e)) (form ∙ of_kind e k is)
 
   -- that of its one part
-  of_part : (r : Result Tree OutOfMemory) (e f a : TExpr) (k : TExprKind) → e.kind ≡ k → f ≡ a → expr_at n ms (expr_of a) ≡ expr_at n ms (expr_with (ctype_of e.ctype) k)
+  of_part : (r : Result Tree OutOfMemory) (e f a : TExpr) → f ≡ a → expr_at n ms (expr_of a) ≡ expr_at n ms (expr_of e)
       → IfOk r (λ s. shape_of s ≡ expr_at n ms (expr_of f)) → IfOk r (λ s. shape_of s ≡ expr_at n ms (expr_of e))
-  of_part r e f a k is same form = of_form r e k (expr_at n ms (expr_of f)) is (ap (λ x. expr_at n ms (expr_of x)) same ∙ form)
+  of_part r e f a same form = same_shape r (expr_at n ms (expr_of f)) (expr_at n ms (expr_of e)) (ap (λ x. expr_at n ms (expr_of x)) same ∙ form)
 
   -- that of its two parts, joined in this way
-  of_two : (join : Shape → Shape → Shape) (r : Result Tree OutOfMemory) (e f g a b : TExpr) (k : TExprKind) (first : Tree) → e.kind ≡ k → f ≡ a → g ≡ b
-      → join (expr_at n ms (expr_of a)) (expr_at n ms (expr_of b)) ≡ expr_at n ms (expr_with (ctype_of e.ctype) k) → shape_of first ≡ expr_at n ms (expr_of f)
+  of_two : (join : Shape → Shape → Shape) (r : Result Tree OutOfMemory) (e f g a b : TExpr) (first : Tree) → f ≡ a → g ≡ b
+      → join (expr_at n ms (expr_of a)) (expr_at n ms (expr_of b)) ≡ expr_at n ms (expr_of e) → shape_of first ≡ expr_at n ms (expr_of f)
       → IfOk r (λ s. shape_of s ≡ join (shape_of first) (expr_at n ms (expr_of g))) → IfOk r (λ s. shape_of s ≡ expr_at n ms (expr_of e))
-  of_two join r e f g a b k first is one other form begun =
-      of_form r e k (join (shape_of first) (expr_at n ms (expr_of g))) is
+  of_two join r e f g a b first one other form begun =
+      same_shape r (join (shape_of first) (expr_at n ms (expr_of g))) (expr_at n ms (expr_of e))
       (ap₂ join (begun ∙ ap (λ x. expr_at n ms (expr_of x)) one) (ap (λ x. expr_at n ms (expr_of x)) other) ∙ form)
 
+pub expression-returns-in-Const : goal.expression-returns-in-Const
+expression-returns-in-Const t c = of_none c.args.self.now.defined c.args.self.now.marks.now c.args.e.now c.in-Const.is
+
 pub expression-returns-in-Deref : goal.expression-returns-in-Deref
-expression-returns-in-Deref t c = of_part c.args.self.now.defined c.args.self.now.marks.now c.expression.result c.args.e.now c.deref.result.now c.in-Deref.a.value _ c.in-Deref.is c.deref.ensures refl c.expression.ensures
-
-pub expression-returns-in-Load : goal.expression-returns-in-Load
-expression-returns-in-Load t c = of_part c.args.self.now.defined c.args.self.now.marks.now c.expression-in-Load.result c.args.e.now c.deref-in-Load.result.now c.in-Load.a.value _ c.in-Load.is c.deref-in-Load.ensures refl c.expression-in-Load.ensures
-
-pub expression-returns-in-AddressOf : goal.expression-returns-in-AddressOf
-expression-returns-in-AddressOf t c = of_part c.args.self.now.defined c.args.self.now.marks.now c.expression-in-AddressOf.result c.args.e.now c.deref-in-AddressOf.result.now c.in-AddressOf.a.value _ c.in-AddressOf.is c.deref-in-AddressOf.ensures refl c.expression-in-AddressOf.ensures
-
-pub expression-returns-in-Decay : goal.expression-returns-in-Decay
-expression-returns-in-Decay t c = of_part c.args.self.now.defined c.args.self.now.marks.now c.expression-in-Decay.result c.args.e.now c.deref-in-Decay.result.now c.in-Decay.a.value _ c.in-Decay.is c.deref-in-Decay.ensures refl c.expression-in-Decay.ensures
-
-pub expression-returns-in-Discard : goal.expression-returns-in-Discard
-expression-returns-in-Discard t c = of_part c.args.self.now.defined c.args.self.now.marks.now c.expression-in-Discard.result c.args.e.now c.deref-in-Discard.result.now c.in-Discard.a.value _ c.in-Discard.is c.deref-in-Discard.ensures refl c.expression-in-Discard.ensures
-
-pub expression-returns-in-Field : goal.expression-returns-in-Field
-expression-returns-in-Field t c = of_part c.args.self.now.defined c.args.self.now.marks.now c.expression-in-Field.result c.args.e.now c.deref-in-Field.result.now c.in-Field.a.value _ c.in-Field.is c.deref-in-Field.ensures refl c.expression-in-Field.ensures
-
-pub expression-returns-in-Unary : goal.expression-returns-in-Unary
-expression-returns-in-Unary t c = of_part c.args.self.now.defined c.args.self.now.marks.now c.expression-in-Unary.result c.args.e.now c.deref-in-Unary.result.now c.in-Unary.a.value _ c.in-Unary.is c.deref-in-Unary.ensures refl c.expression-in-Unary.ensures
-
-pub expression-returns-in-Convert : goal.expression-returns-in-Convert
-expression-returns-in-Convert t c = of_part c.args.self.now.defined c.args.self.now.marks.now c.expression-in-Convert.result c.args.e.now c.deref-in-Convert.result.now c.in-Convert.a.value _ c.in-Convert.is c.deref-in-Convert.ensures refl c.expression-in-Convert.ensures
+expression-returns-in-Deref t c =
+    of_part c.args.self.now.defined c.args.self.now.marks.now c.expression-in-Deref.result c.args.e.now c.deref-in-Deref.result.now c.in-Deref.a.value c.deref-in-Deref.ensures
+    (of_one c.args.self.now.defined c.args.self.now.marks.now c.args.e.now c.in-Deref.a c.in-Deref.is) c.expression-in-Deref.ensures
 
 pub expression-returns-in_ok-first-in-Arith : goal.expression-returns-in_ok-first-in-Arith
-expression-returns-in_ok-first-in-Arith t c = of_two c.args.self.now.defined c.args.self.now.marks.now seq_two c.after.result c.args.e.now c.deref-in-Arith.result.now c.deref-in-Arith-2.result.now c.in-Arith.a.value c.in-Arith.b.value _ c.in_ok-first-in-Arith.first c.in-Arith.is c.deref-in-Arith.ensures c.deref-in-Arith-2.ensures refl c.in_ok-first-in-Arith.ensures c.after.ensures
-
-pub expression-returns-in_ok-first-in-Compare : goal.expression-returns-in_ok-first-in-Compare
-expression-returns-in_ok-first-in-Compare t c = of_two c.args.self.now.defined c.args.self.now.marks.now seq_two c.after-in-Compare.result c.args.e.now c.deref-in-Compare.result.now c.deref-in-Compare-2.result.now c.in-Compare.a.value c.in-Compare.b.value _ c.in_ok-first-in-Compare.first c.in-Compare.is c.deref-in-Compare.ensures c.deref-in-Compare-2.ensures refl c.in_ok-first-in-Compare.ensures c.after-in-Compare.ensures
-
-pub expression-returns-in_ok-first-in-PointerAdd : goal.expression-returns-in_ok-first-in-PointerAdd
-expression-returns-in_ok-first-in-PointerAdd t c = of_two c.args.self.now.defined c.args.self.now.marks.now seq_two c.after-in-PointerAdd.result c.args.e.now c.deref-in-PointerAdd.result.now c.deref-in-PointerAdd-2.result.now c.in-PointerAdd.left.value c.in-PointerAdd.right.value _ c.in_ok-first-in-PointerAdd.first c.in-PointerAdd.is c.deref-in-PointerAdd.ensures c.deref-in-PointerAdd-2.ensures refl c.in_ok-first-in-PointerAdd.ensures c.after-in-PointerAdd.ensures
-
-pub expression-returns-in_ok-first-in-PointerDiff : goal.expression-returns-in_ok-first-in-PointerDiff
-expression-returns-in_ok-first-in-PointerDiff t c = of_two c.args.self.now.defined c.args.self.now.marks.now seq_two c.after-in-PointerDiff.result c.args.e.now c.deref-in-PointerDiff.result.now c.deref-in-PointerDiff-2.result.now c.in-PointerDiff.a.value c.in-PointerDiff.b.value _ c.in_ok-first-in-PointerDiff.first c.in-PointerDiff.is c.deref-in-PointerDiff.ensures c.deref-in-PointerDiff-2.ensures refl c.in_ok-first-in-PointerDiff.ensures c.after-in-PointerDiff.ensures
-
-pub expression-returns-in_ok-first-in-Assign : goal.expression-returns-in_ok-first-in-Assign
-expression-returns-in_ok-first-in-Assign t c = of_two c.args.self.now.defined c.args.self.now.marks.now seq_two c.after-in-Assign.result c.args.e.now c.deref-in-Assign.result.now c.deref-in-Assign-2.result.now c.in-Assign.a.value c.in-Assign.b.value _ c.in_ok-first-in-Assign.first c.in-Assign.is c.deref-in-Assign.ensures c.deref-in-Assign-2.ensures refl c.in_ok-first-in-Assign.ensures c.after-in-Assign.ensures
-
-pub expression-returns-in_ok-first-in-Update : goal.expression-returns-in_ok-first-in-Update
-expression-returns-in_ok-first-in-Update t c = of_two c.args.self.now.defined c.args.self.now.marks.now seq_two c.after-in-Update.result c.args.e.now c.deref-in-Update.result.now c.deref-in-Update-2.result.now c.in-Update.place.value c.in-Update.value.value _ c.in_ok-first-in-Update.first c.in-Update.is c.deref-in-Update.ensures c.deref-in-Update-2.ensures refl c.in_ok-first-in-Update.ensures c.after-in-Update.ensures
+expression-returns-in_ok-first-in-Arith t c =
+    of_two c.args.self.now.defined c.args.self.now.marks.now seq_two c.after.result c.args.e.now c.deref-in-Arith.result.now c.deref-in-Arith-2.result.now c.in-Arith.a.value c.in-Arith.b.value
+    c.in_ok-first-in-Arith.first c.deref-in-Arith.ensures c.deref-in-Arith-2.ensures
+    (of_both c.args.self.now.defined c.args.self.now.marks.now c.args.e.now c.in-Arith.a c.in-Arith.b c.in-Arith.is) c.in_ok-first-in-Arith.ensures c.after.ensures
 
 pub expression-returns-in_ok-first-in-And : goal.expression-returns-in_ok-first-in-And
-expression-returns-in_ok-first-in-And t c = of_two c.args.self.now.defined c.args.self.now.marks.now (λ S U. seq_two S (alt U Skip)) c.perhaps_after.result c.args.e.now c.deref-in-And.result.now c.deref-in-And-2.result.now c.in-And.a.value c.in-And.b.value _ c.in_ok-first-in-And.first c.in-And.is c.deref-in-And.ensures c.deref-in-And-2.ensures refl c.in_ok-first-in-And.ensures c.perhaps_after.ensures
-
-pub expression-returns-in_ok-first-in-Or : goal.expression-returns-in_ok-first-in-Or
-expression-returns-in_ok-first-in-Or t c = of_two c.args.self.now.defined c.args.self.now.marks.now (λ S U. seq_two S (alt U Skip)) c.perhaps_after-in-Or.result c.args.e.now c.deref-in-Or.result.now c.deref-in-Or-2.result.now c.in-Or.a.value c.in-Or.b.value _ c.in_ok-first-in-Or.first c.in-Or.is c.deref-in-Or.ensures c.deref-in-Or-2.ensures refl c.in_ok-first-in-Or.ensures c.perhaps_after-in-Or.ensures
-
-pub expression-returns-in-Const : goal.expression-returns-in-Const
-expression-returns-in-Const t c = sym (ap (λ k. expr_at c.args.self.now.defined c.args.self.now.marks.now (expr_with (ctype_of c.args.e.now.ctype) k)) c.in-Const.is)
-
-pub expression-returns-in-Function : goal.expression-returns-in-Function
-expression-returns-in-Function t c = sym (ap (λ k. expr_at c.args.self.now.defined c.args.self.now.marks.now (expr_with (ctype_of c.args.e.now.ctype) k)) c.in-Function.is)
-
-pub expression-returns-in-StringPlace : goal.expression-returns-in-StringPlace
-expression-returns-in-StringPlace t c = sym (ap (λ k. expr_at c.args.self.now.defined c.args.self.now.marks.now (expr_with (ctype_of c.args.e.now.ctype) k)) c.in-StringPlace.is)
-
-pub expression-returns-in-Variable : goal.expression-returns-in-Variable
-expression-returns-in-Variable t c = sym (ap (λ k. expr_at c.args.self.now.defined c.args.self.now.marks.now (expr_with (ctype_of c.args.e.now.ctype) k)) c.in-Variable.is)
+expression-returns-in_ok-first-in-And t c =
+    of_two c.args.self.now.defined c.args.self.now.marks.now (λ S U. seq_two S (alt U Skip)) c.perhaps_after.result c.args.e.now c.deref-in-And.result.now c.deref-in-And-2.result.now c.in-And.a.value c.in-And.b.value
+    c.in_ok-first-in-And.first c.deref-in-And.ensures c.deref-in-And-2.ensures
+    (of_second c.args.self.now.defined c.args.self.now.marks.now c.args.e.now c.in-And.a c.in-And.b c.in-And.is) c.in_ok-first-in-And.ensures c.perhaps_after.ensures
 
 pub expression-returns-in_ok-one-in-Cond : goal.expression-returns-in_ok-one-in-Cond
 expression-returns-in_ok-one-in-Cond t c =
     let n = c.args.self.now.defined in
     let ms = c.args.self.now.marks.now in
     let i = c.in-Cond in
-    let test = c.in_ok-first-in-Cond.ensures ∙ ap (λ e. expr_at n ms (expr_of e)) c.deref-in-Cond.ensures in
-    let yes = c.in_ok-one-in-Cond.ensures ∙ ap (λ e. expr_at n ms (expr_of e)) c.deref-in-Cond-2.ensures in
-    of_form n ms c.one_after.result c.args.e.now _ (seq_two (shape_of c.in_ok-first-in-Cond.first) (alt (shape_of c.in_ok-one-in-Cond.one) (expr_at n ms (expr_of c.deref-in-Cond-3.result.now)))) i.is
-    (ap₂ (λ S T. seq_two S (alt T (expr_at n ms (expr_of c.deref-in-Cond-3.result.now)))) test yes
-    ∙ ap (λ e. seq_two (expr_at n ms (expr_of i.test.value)) (alt (expr_at n ms (expr_of i.yes.value)) (expr_at n ms (expr_of e)))) c.deref-in-Cond-3.ensures)
+    let test = c.in_ok-first-in-Cond.ensures ∙ ap (λ e. expr_at n ms (expr_of e)) c.deref.ensures in
+    let yes = c.in_ok-one-in-Cond.ensures ∙ ap (λ e. expr_at n ms (expr_of e)) c.deref-in-Cond.ensures in
+    of_form n ms c.one_after.result c.args.e.now _ (seq_two (shape_of c.in_ok-first-in-Cond.first) (alt (shape_of c.in_ok-one-in-Cond.one) (expr_at n ms (expr_of c.deref-in-Cond-2.result.now)))) i.is
+    (ap₂ (λ S T. seq_two S (alt T (expr_at n ms (expr_of c.deref-in-Cond-2.result.now)))) test yes
+    ∙ ap (λ e. seq_two (expr_at n ms (expr_of i.test.value)) (alt (expr_at n ms (expr_of i.yes.value)) (expr_at n ms (expr_of e)))) c.deref-in-Cond-2.ensures)
     c.one_after.ensures
 
 pub expression-returns-in_ok-parts-in-Comma : goal.expression-returns-in_ok-parts-in-Comma

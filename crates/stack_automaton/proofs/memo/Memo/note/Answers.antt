@@ -1,4 +1,4 @@
-use Rattle.indexmap.specs.IndexMap.{values}
+use Rattle.std.specs.HashMap.{values}
 use Rattle.stack_automaton.proofs.MemoLemmas.{noted}
 use Rattle.stack_automaton.proofs.memo.Memo.note.Goals as goal
 

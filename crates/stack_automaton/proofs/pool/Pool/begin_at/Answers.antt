@@ -1,4 +1,4 @@
-use Rattle.indexmap.specs.IndexMap.{values}
+use Rattle.std.specs.HashMap.{values}
 use Rattle.stack_automaton.specs.Held.{IsThere}
 use Rattle.stack_automaton.specs.Moving.{LeadsBy}
 use Rattle.stack_automaton.proofs.SeenLemmas.{one_seen, seen_one}

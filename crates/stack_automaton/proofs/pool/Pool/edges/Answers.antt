@@ -1,6 +1,6 @@
 use Rattle.std.proofs.Common.{rules, ◌≡◌, Some, None}
 use Rattle.slab.specs.Slab.{get}
-use Rattle.indexmap.specs.IndexMap.{values}
+use Rattle.std.specs.HashMap.{values}
 use Rattle.stack_automaton.proofs.SeenLemmas.{there_seen, none_seen, missing_seen}
 use Rattle.stack_automaton.proofs.pool.Pool.edges.Goals as goal
 

@@ -1,4 +1,4 @@
-use Rattle.indexmap.specs.IndexMap.{values}
+use Rattle.std.specs.HashMap.{values}
 use Rattle.stack_automaton.proofs.SeenLemmas.{pool_seen}
 use Rattle.stack_automaton.proofs.pool.Pool.new.Goals as goal
 

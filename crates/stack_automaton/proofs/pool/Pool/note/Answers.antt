@@ -1,4 +1,4 @@
-use Rattle.indexmap.specs.IndexMap.{values}
+use Rattle.std.specs.HashMap.{values}
 use Rattle.stack_automaton.proofs.SeenLemmas.{noted_seen}
 use Rattle.stack_automaton.proofs.pool.Pool.note.Goals as goal
 

@@ -1,5 +1,5 @@
 use Rattle.std.proofs.Common.{◌≡◌, ◌⊎◌, Contains}
-use Rattle.indexmap.specs.IndexMap.{values}
+use Rattle.std.specs.HashMap.{values}
 use Rattle.stack_automaton.specs.Seen.{Memory}
 use Rattle.stack_automaton.proofs.SeenLemmas.{at_pool}
 use Rattle.stack_automaton.proofs.pool.Pool.remember.Goals as goal

@@ -1,5 +1,5 @@
 use Rattle.std.proofs.Common.{◌≡◌, ℕ, List, Some}
-use Rattle.indexmap.specs.IndexMap.{values}
+use Rattle.std.specs.HashMap.{values}
 use Rattle.stack_automaton.specs.declared.place.Edge.{Edge}
 use Rattle.stack_automaton.proofs.SeenLemmas.{both_seen, kept_seen, gone_seen}
 use Rattle.stack_automaton.proofs.pool.Pool.sweep.Goals as goal
