@@ -36,13 +36,13 @@ fn read_one(
     ensures { OnOk result (Adds facts.old.keys facts.new.keys (λ x. IsRead event.now edge x sys.now)) }
 {
     if fits(sys.name, &sys.args, event) {
-        add(
+        return add(
             facts,
             Fact {
                 node: sys.to,
                 place: Place::Held(edge.to),
             },
-        )?;
+        );
     }
     Ok(())
 }
@@ -180,10 +180,10 @@ pub fn begin_at(
     ensures held { OnOk result (AreHeld facts.new.keys) }
 {
     match states.get(key) {
-        Some(state) => {
-            first_facts(facts, model, state.edges(), event)?;
+        Some(state) => first_facts(facts, model, state.edges(), event),
+        None => {
+            facts.clear();
+            Ok(())
         }
-        None => facts.clear(),
     }
-    Ok(())
 }

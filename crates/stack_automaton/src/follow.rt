@@ -55,10 +55,10 @@ fn enter_one(
 ) -> Result<(), OutOfMemory>
     ensures { OnOk result (Adds facts.old.keys facts.new.keys (λ y. IsEntry functions.now y function)) }
 {
-    if let Some(one) = functions.get(function as usize) {
-        add_at(facts, one.entry, Place::Entered(function))?;
+    match functions.get(function as usize) {
+        Some(one) => add_at(facts, one.entry, Place::Entered(function)),
+        None => Ok(()),
     }
-    Ok(())
 }
 
 // Whether the exit of the function is reached.
@@ -79,7 +79,7 @@ fn return_one(
     ensures { OnOk result (Adds facts.old.keys facts.new.keys (λ y. Contains ended.now.keys function × (y ≡ record { node = to; place = place }))) }
 {
     if has_ended(ended, function) {
-        add_at(facts, to, place)?;
+        return add_at(facts, to, place);
     }
     Ok(())
 }
@@ -222,7 +222,7 @@ fn return_along(
 {
     if let Some(call) = call_at(model, edge.label) {
         if is_exit_of_one(model.functions(), call.candidates(), node) {
-            add_at(facts, call.to(), Place::Held(edge.to))?;
+            return add_at(facts, call.to(), Place::Held(edge.to));
         }
     }
     Ok(())
@@ -256,7 +256,7 @@ fn follow_back(
     };
     if let Place::Held(key) = fact.place {
         if let Some(state) = states.get(key) {
-            return_along_each(facts, model, fact.node, state.edges())?;
+            return return_along_each(facts, model, fact.node, state.edges());
         }
     }
     Ok(())
@@ -307,10 +307,10 @@ fn follow_end(
 ) -> Result<(), OutOfMemory>
     ensures { OnOk result (Adds facts.old.keys facts.new.keys (IsAfterEnd functions.now links.now fact)) }
 {
-    if let Some(function) = ending(functions, fact) {
-        return_to_each(facts, links.of(function))?;
+    match ending(functions, fact) {
+        Some(function) => return_to_each(facts, links.of(function)),
+        None => Ok(()),
     }
-    Ok(())
 }
 
 // Adds what is one step from the fact, given the calls and the ends that were found before.

@@ -37,10 +37,10 @@ fn note_edges(noted: &mut KeySet, edges: &[Edge]) -> Result<(), OutOfMemory>
 fn note_next(noted: &mut KeySet, states: &Slab<State>, key: usize) -> Result<(), OutOfMemory>
     ensures { OnOk result (Adds noted.old.keys noted.new.keys (IsNextTo (get states.now) key)) }
 {
-    if let Some(state) = states.get(key) {
-        note_edges(noted, state.edges())?;
+    match states.get(key) {
+        Some(state) => note_edges(noted, state.edges()),
+        None => Ok(()),
     }
-    Ok(())
 }
 
 // Notes all keys to which edges lead from the noted keys.

@@ -46,8 +46,7 @@ fn plan_one(
     if is_among(known, place) {
         return Ok(found[place]);
     }
-    let key = insert(states, State::empty(alloc))?;
-    Ok(key)
+    insert(states, State::empty(alloc))
 }
 
 // A key for the state of each function that is entered. The new states have no edges yet.

@@ -1,15 +1,18 @@
 use Rattle.std.proofs.Common.{rules, ◌≡◌, true, false, refl, sym, subst}
+use Rattle.std.proofs.lemmas.Result.{on_ok_weaker}
 use Rattle.dm_base.specs.Adding.{Has}
 use Rattle.stack_automaton.specs.Following.{EndsAt}
 use Rattle.dm_base.proofs.AddingLemmas.{adds_nothing}
 use Rattle.stack_automaton.proofs.FollowingLemmas.{site_returned, site_not_returned}
 use Rattle.stack_automaton.proofs.follow.return_along.Goals as goal
 
-pub returns-in_ok-add_at : goal.returns-in_ok-add_at
-returns-in_ok-add_at c =
+pub returns-then-is_exit_of_one : goal.returns-then-is_exit_of_one
+returns-then-is_exit_of_one c =
     let ends : Has (EndsAt c.functions.result.now c.args.node) c.candidates.result.now = search rules in
     let ends : Has (EndsAt c.args.model.now.functions c.args.node) c.candidates.result.now = subst (λ fs. Has (EndsAt fs c.args.node) c.candidates.result.now) c.functions.ensures ends in
-    site_returned c.args.model.now c.args.edge.label c.in-Some.call.now c.in-Some.ensures.some c.args.facts.now.keys c.add_at.new.facts.keys c.args.model.now.functions c.args.node c.args.edge c.candidates.result.now c.to.result refl c.candidates.ensures c.to.ensures ends c.in_ok-add_at.ensures
+    on_ok_weaker c.add_at.result
+    (site_returned c.args.model.now c.args.edge.label c.in-Some.call.now c.in-Some.ensures.some c.args.facts.now.keys c.add_at.new.facts.keys c.args.model.now.functions c.args.node c.args.edge c.candidates.result.now c.to.result refl c.candidates.ensures c.to.ensures ends)
+    c.add_at.ensures
 
 pub returns-else-is_exit_of_one : goal.returns-else-is_exit_of_one
 returns-else-is_exit_of_one c =
