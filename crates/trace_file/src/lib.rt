@@ -3,6 +3,7 @@
 #![tactic(auto)]
 
 mod call;
+mod child;
 mod ending;
 mod error;
 mod event_writing;
@@ -18,6 +19,7 @@ mod traces_reader;
 mod version;
 mod writing;
 
+pub use child::child_of;
 pub use error::TraceError;
 pub use laws::{one_list_of_records, one_trace};
 pub use record::Record;

@@ -1,16 +1,12 @@
-ghost use Rattle.std.specs.Prelude.{◌≡◌, ℕ, ℤ, pos, negsuc, List, [], ◌∷◌, ◌++◌, ◌-◌, ◌<◌, ◌≤ℤ◌, length, take, IfSome, IfNone, OnOk, OnErr};
-ghost use Rattle.std.specs.Option.{option_to_list};
-ghost use Rattle.trace_file.specs.Known.{child_of, made_known};
+ghost use Rattle.std.specs.Prelude.{◌≡◌, ℕ, List, [], ◌++◌, ◌-◌, length, take, OnOk, OnErr};
+ghost use Rattle.trace_file.specs.Known.{made_known};
 ghost use Rattle.trace_file.specs.Processes.{AreKnown, AreFound, with_process};
 
-use crate::{Record, TracesVersion};
-use dm_base::{Event, OutOfMemory};
+use crate::{Record, TracesVersion, child_of};
+use dm_base::OutOfMemory;
 use std::alloc::Global;
 use std::collections::HashSet;
 use std::marker::Model;
-
-/// The number of `fork` in the table of system calls.
-const FORK: u8 = 22;
 
 /// Processes by their numbers, in the order in which they became known. Seen as their list.
 #[derive(Drop)]
@@ -119,38 +115,10 @@ impl Processes {
         self.add(next.pid)?;
         match version {
             TracesVersion::One => Ok(()),
-            TracesVersion::Two => match child(&next.event) {
+            TracesVersion::Two => match child_of(&next.event) {
                 Some(process) => self.add(process),
                 None => Ok(()),
             },
         }
-    }
-}
-
-// The child that a `fork` made.
-fn child(event: &Event) -> Option<u32>
-    ensures { option_to_list result ≡ child_of event.now }
-{
-    match event {
-        Event::Sys { name, result, .. } => {
-            if name.index() == FORK {
-                process(*result)
-            } else {
-                None
-            }
-        }
-        Event::Pre(_) | Event::Post(_) => None,
-    }
-}
-
-// The process with this number, which is at least 1 and below 2^32.
-fn process(number: i64) -> Option<u32>
-    ensures some { IfSome result (λ process. (number ≡ pos process) × (0 < process)) }
-    ensures none { IfNone result ((n : ℕ) → number ≡ pos n → 0 < n → n < 4294967296 → ⊥) }
-{
-    if 1 <= number && number <= 4_294_967_295 {
-        Some(number as u32)
-    } else {
-        None
     }
 }

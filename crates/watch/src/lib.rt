@@ -2,7 +2,6 @@
 //! still at hand.
 #![tactic(auto)]
 
-mod child;
 mod past;
 mod process;
 mod sweeping;

@@ -9,13 +9,12 @@ ghost use Rattle.watch.specs.Own.{own, record_of};
 ghost use Rattle.watch.specs.Keeping.{KeepsPool, IsNewborn, verdicts_told};
 ghost use Rattle.watch.specs.Standing.{IsBound, IsAt, HasHistory, AreWatched};
 
-use crate::child::child_of;
 use crate::process::{Process, Setting};
 use dm_base::{Event, OutOfMemory, Step, Verdict};
 use flow_model::Monitor;
 use indexmap::IndexMap;
 use std::alloc::Global;
-use trace_file::TracesVersion;
+use trace_file::{TracesVersion, child_of};
 
 /// The child that this event of a process makes, where it isn't known.
 pub fn newborn<M: Monitor>(
